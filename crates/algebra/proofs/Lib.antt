@@ -1,0 +1,5 @@
+pub mod Ring
+pub mod Sums
+pub mod Form
+pub mod Rows
+pub mod Limits

@@ -1,0 +1,6 @@
+// Refusals: why a call is denied, with the number that the outside sees, and the place that it concerns.
+mod denial;
+mod reason;
+
+pub use denial::Denial;
+pub use reason::Reason;
