@@ -27,12 +27,12 @@ module _ (P : M → M → ℤ) (F : Form P) where
       (same (λ i. pos 0 *ℤ f i) (λ i. pos 0) h (λ i. zero-*ℤ (f i)) ∙ null h ∙ sym (zero-*ℤ (P f h)))
       (λ m e. same (λ i. sucℤ m *ℤ f i) (λ i. m *ℤ f i +ℤ f i) h (λ i. sucℤ-*ℤ m (f i)) ∙ F .add (λ i. m *ℤ f i) f h ∙ ap (λ x. x +ℤ P f h) e ∙ sym (sucℤ-*ℤ m (P f h)))
       (λ m e. let back : P (λ i. m *ℤ f i) h ≡ P (λ i. predℤ m *ℤ f i +ℤ f i) h = same (λ i. m *ℤ f i) (λ i. predℤ m *ℤ f i +ℤ f i) h (λ i. omega (arith, lin, predℤ-*ℤ m (f i))) in
-        omega (arith, lin, F .add (λ i. predℤ m *ℤ f i) f h, predℤ-*ℤ m (P f h)))
+      omega (arith, lin, F .add (λ i. predℤ m *ℤ f i) f h, predℤ-*ℤ m (P f h)))
       k
 
   pub neg : (f h : M) → P (λ i. negℤ (f i)) h ≡ negℤ (P f h)
   neg f h = let e : P (λ i. f i +ℤ negℤ (f i)) h ≡ P (λ i. pos 0) h = same (λ i. f i +ℤ negℤ (f i)) (λ i. pos 0) h (λ i. lib.IntN.+ℤ-invr (f i)) in
-    omega (arith, lin, F .add f (λ i. negℤ (f i)) h, null h)
+      omega (arith, lin, F .add f (λ i. negℤ (f i)) h, null h)
 
   pub sub : (f g h : M) → P (λ i. f i -ℤ g i) h ≡ P f h -ℤ P g h
   sub f g h = F .add f (λ i. negℤ (g i)) h ∙ ap (λ x. P f h +ℤ x) (neg g h)
@@ -53,9 +53,9 @@ module _ (P : M → M → ℤ) (F : Form P) where
 
   pub square : (f g : M) (q : ℤ) → P (λ i. f i +ℤ q *ℤ g i) (λ i. f i +ℤ q *ℤ g i) ≡ P f f +ℤ (q *ℤ P f g +ℤ q *ℤ P f g) +ℤ (q *ℤ q) *ℤ P g g
   square f g q = mixed f g q (λ i. f i +ℤ q *ℤ g i)
-    ∙ (λ k. mixed-right f g q f k +ℤ q *ℤ mixed-right f g q g k)
-    ∙ ap (λ x. (P f f +ℤ q *ℤ P f g) +ℤ q *ℤ (x +ℤ q *ℤ P g g)) (F .symm g f)
-    ∙ regrouped (P f f) (P f g) (P g g) q
+      ∙ (λ k. mixed-right f g q f k +ℤ q *ℤ mixed-right f g q g k)
+      ∙ ap (λ x. (P f f +ℤ q *ℤ P f g) +ℤ q *ℤ (x +ℤ q *ℤ P g g)) (F .symm g f)
+      ∙ regrouped (P f f) (P f g) (P g g) q
 
   pub scale-square : (k : ℤ) (f : M) → P (λ i. k *ℤ f i) (λ i. k *ℤ f i) ≡ (k *ℤ k) *ℤ P f f
   scale-square k f = scale k f (λ i. k *ℤ f i) ∙ ap (λ x. k *ℤ x) (F .symm f (λ i. k *ℤ f i) ∙ scale k f f) ∙ sym (assoc k k (P f f))

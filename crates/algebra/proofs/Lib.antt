@@ -3,3 +3,4 @@ pub mod Sums
 pub mod Form
 pub mod Rows
 pub mod Limits
+pub mod Places

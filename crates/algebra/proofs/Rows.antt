@@ -9,27 +9,22 @@ use lib.ListN.{length, getD}
 use Rattle.algebra.proofs.Ring.{ring, lin}
 use Rattle.algebra.proofs.Form.{M, Form}
 use Rattle.std.proofs.shelf.Lists.{length-replicate}
-use Rattle.algebra.specs.Row.{Row, part, zip, _⊕_, _⊖_, _⊙_, zeros, Product}
+use Rattle.algebra.specs.Row.{Row, part, tabulate, zip, _⊕_, _⊖_, _⊙_, zeros, Product}
 use Rattle.algebra.specs.Sum.{sum, sumRows}
 
--- the row of width w with the components f
-abbrev pub tab : ℕ → M → Row
-tab zero f = []
-tab (suc w) f = f 0 ∷ tab w (λ i. f (suc i))
+pub tabulate-length : (w : ℕ) (f : M) → length (tabulate w f) ≡ w
+tabulate-length zero f = refl
+tabulate-length (suc w) f = ap suc (tabulate-length w (λ i. f (suc i)))
 
-pub tab-length : (w : ℕ) (f : M) → length (tab w f) ≡ w
-tab-length zero f = refl
-tab-length (suc w) f = ap suc (tab-length w (λ i. f (suc i)))
+pub tabulate-part : (w : ℕ) (r : Row) → length r ≡ w → tabulate w (part r) ≡ r
+tabulate-part zero [] e = refl
+tabulate-part zero (x ∷ r) e = absurd (omega arith)
+tabulate-part (suc w) [] e = absurd (omega arith)
+tabulate-part (suc w) (x ∷ r) e = ap (λ s. x ∷ s) (tabulate-part w r (omega arith))
 
-pub tab-part : (w : ℕ) (r : Row) → length r ≡ w → tab w (part r) ≡ r
-tab-part zero [] e = refl
-tab-part zero (x ∷ r) e = absurd (omega arith)
-tab-part (suc w) [] e = absurd (omega arith)
-tab-part (suc w) (x ∷ r) e = ap (λ s. x ∷ s) (tab-part w r (omega arith))
-
-pub tab-add : (w : ℕ) (f g : M) → tab w (λ i. f i +ℤ g i) ≡ tab w f ⊕ tab w g
-tab-add zero f g = refl
-tab-add (suc w) f g = ap (λ s. (f 0 +ℤ g 0) ∷ s) (tab-add w (λ i. f (suc i)) (λ i. g (suc i)))
+pub tabulate-add : (w : ℕ) (f g : M) → tabulate w (λ i. f i +ℤ g i) ≡ tabulate w f ⊕ tabulate w g
+tabulate-add zero f g = refl
+tabulate-add (suc w) f g = ap (λ s. (f 0 +ℤ g 0) ∷ s) (tabulate-add w (λ i. f (suc i)) (λ i. g (suc i)))
 
 pub zip-length : (f : ℤ → ℤ → ℤ) (w : ℕ) (r s : Row) → length r ≡ w → length s ≡ w → length (zip f r s) ≡ w
 zip-length f w [] [] h k = h
@@ -64,11 +59,11 @@ part-scale c (x ∷ r) (suc i) = part-scale c r i
 
 -- rows of one width are equal where their components are
 pub same-row : (w : ℕ) (r s : Row) → length r ≡ w → length s ≡ w → ((i : ℕ) → part r i ≡ part s i) → r ≡ s
-same-row w r s h k e = sym (tab-part w r h) ∙ ap (tab w) (mathlib.Core.Path.fun-ext e) ∙ tab-part w s k
+same-row w r s h k e = sym (tabulate-part w r h) ∙ ap (tabulate w) (mathlib.Core.Path.fun-ext e) ∙ tabulate-part w s k
 
-pub zeros-tab : (w : ℕ) → zeros w ≡ tab w (λ i. pos 0)
-zeros-tab zero = refl
-zeros-tab (suc w) = ap (λ r. pos 0 ∷ r) (zeros-tab w)
+pub zeros-tabulate : (w : ℕ) → zeros w ≡ tabulate w (λ i. pos 0)
+zeros-tabulate zero = refl
+zeros-tabulate (suc w) = ap (λ r. pos 0 ∷ r) (zeros-tabulate w)
 
 -- a row is all zeros, or it is not
 pub dec-zeros : (r : Row) → Dec (r ≡ zeros (length r))
@@ -82,37 +77,37 @@ dec-zeros (x ∷ r) = by (ℤ-discrete x (pos 0)) (dec-zeros r)
 
 module _ (w : ℕ) (dot : Row → Row → ℤ) (laws : Product w dot) where
   abbrev pub P : M → M → ℤ
-  P f g = dot (tab w f) (tab w g)
+  P f g = dot (tabulate w f) (tabulate w g)
 
   add′ : (f g h : M) → P (λ i. f i +ℤ g i) h ≡ P f h +ℤ P g h
-  add′ f g h = ap (λ r. dot r (tab w h)) (tab-add w f g) ∙ laws .additive (tab w f) (tab w g) (tab w h) (tab-length w f) (tab-length w g) (tab-length w h)
+  add′ f g h = ap (λ r. dot r (tabulate w h)) (tabulate-add w f g) ∙ laws .additive (tabulate w f) (tabulate w g) (tabulate w h) (tabulate-length w f) (tabulate-length w g) (tabulate-length w h)
 
-  pub P-positive : (f : M) → ¬ (tab w f ≡ zeros w) → pos 1 ≤ℤ P f f
-  P-positive f n = laws .positive (tab w f) (tab-length w f) n
+  pub P-positive : (f : M) → ¬ (tabulate w f ≡ zeros w) → pos 1 ≤ℤ P f f
+  P-positive f n = laws .positive (tabulate w f) (tabulate-length w f) n
 
   pub P-form : Form P
-  P-form = record { symm = λ f g. laws .symmetric (tab w f) (tab w g) (tab-length w f) (tab-length w g); add = add′; nonneg = λ f. by f (subst (λ (n : ℕ). Dec (tab w f ≡ zeros n)) (tab-length w f) (dec-zeros (tab w f))) }
+  P-form = record { symm = λ f g. laws .symmetric (tabulate w f) (tabulate w g) (tabulate-length w f) (tabulate-length w g); add = add′; nonneg = λ f. by f (subst (λ (n : ℕ). Dec (tabulate w f ≡ zeros n)) (tabulate-length w f) (dec-zeros (tabulate w f))) }
     where
-      by : (f : M) → Dec (tab w f ≡ zeros w) → pos 0 ≤ℤ P f f
-      by f (yes z) = let e : P f f ≡ P (λ i. pos 0) f = ap (λ r. dot r (tab w f)) (z ∙ zeros-tab w) in omega (arith, lin, add′ (λ i. pos 0) (λ i. pos 0) f)
+      by : (f : M) → Dec (tabulate w f ≡ zeros w) → pos 0 ≤ℤ P f f
+      by f (yes z) = let e : P f f ≡ P (λ i. pos 0) f = ap (λ r. dot r (tabulate w f)) (z ∙ zeros-tabulate w) in omega (arith, lin, add′ (λ i. pos 0) (λ i. pos 0) f)
       by f (no n) = omega (arith, lin, P-positive f n)
 
   -- on rows of width w the product is that form
   pub P-is : (r s : Row) → length r ≡ w → length s ≡ w → dot r s ≡ P (part r) (part s)
-  P-is r s h k = λ i. dot (sym (tab-part w r h) i) (sym (tab-part w s k) i)
+  P-is r s h k = λ i. dot (sym (tabulate-part w r h) i) (sym (tabulate-part w s k) i)
 
-pub same-where-zero : (w : ℕ) (f g : M) → tab w (λ i. f i -ℤ g i) ≡ zeros w → tab w f ≡ tab w g
+pub same-where-zero : (w : ℕ) (f g : M) → tabulate w (λ i. f i -ℤ g i) ≡ zeros w → tabulate w f ≡ tabulate w g
 same-where-zero zero f g z = refl
 same-where-zero (suc w) f g z =
     let none : f 0 -ℤ g 0 ≡ pos 0 = cc in
-    let rest : tab w (λ j. f (suc j) -ℤ g (suc j)) ≡ zeros w = cc in
+    let rest : tabulate w (λ j. f (suc j) -ℤ g (suc j)) ≡ zeros w = cc in
     let head : f 0 ≡ g 0 = omega (arith, lin, none) in
     λ i. head i ∷ same-where-zero w (λ j. f (suc j)) (λ j. g (suc j)) rest i
 
 -- sums of rows
-pub rows-length : (w n : ℕ) (f : ℕ → Row) → ((j : ℕ) → length (f j) ≡ w) → length (sumRows w n f) ≡ w
+pub rows-length : (w n : ℕ) (f : ℕ → Row) → ((j : ℕ) → j < n → length (f j) ≡ w) → length (sumRows w n f) ≡ w
 rows-length w zero f h = zeros-length w
-rows-length w (suc n) f h = zip-length _+ℤ_ w (sumRows w n f) (f n) (rows-length w n f h) (h n)
+rows-length w (suc n) f h = zip-length _+ℤ_ w (sumRows w n f) (f n) (rows-length w n f (λ j k. h j (omega arith))) (h n (omega arith))
 
 pub part-add : (w : ℕ) (r s : Row) → length r ≡ w → length s ≡ w → (i : ℕ) → part (r ⊕ s) i ≡ part r i +ℤ part s i
 part-add w r s h k i = part-zip _+ℤ_ refl r s (h ∙ sym k) i
@@ -120,6 +115,12 @@ part-add w r s h k i = part-zip _+ℤ_ refl r s (h ∙ sym k) i
 pub part-sub : (w : ℕ) (r s : Row) → length r ≡ w → length s ≡ w → (i : ℕ) → part (r ⊖ s) i ≡ part r i -ℤ part s i
 part-sub w r s h k i = part-zip _-ℤ_ refl r s (h ∙ sym k) i
 
-pub part-rows : (w n : ℕ) (f : ℕ → Row) → ((j : ℕ) → length (f j) ≡ w) → (i : ℕ) → part (sumRows w n f) i ≡ sum n (λ j. part (f j) i)
+pub part-rows : (w n : ℕ) (f : ℕ → Row) → ((j : ℕ) → j < n → length (f j) ≡ w) → (i : ℕ) → part (sumRows w n f) i ≡ sum n (λ j. part (f j) i)
 part-rows w zero f h i = part-zeros w i
-part-rows w (suc n) f h i = part-add w (sumRows w n f) (f n) (rows-length w n f h) (h n) i ∙ ap (λ x. x +ℤ part (f n) i) (part-rows w n f h i)
+part-rows w (suc n) f h i =
+    part-add w (sumRows w n f) (f n) (rows-length w n f (λ j k. h j (omega arith))) (h n (omega arith)) i
+    ∙ ap (λ x. x +ℤ part (f n) i) (part-rows w n f (λ j k. h j (omega arith)) i)
+
+pub rows-ext : (w n : ℕ) (f g : ℕ → Row) → ((j : ℕ) → j < n → f j ≡ g j) → sumRows w n f ≡ sumRows w n g
+rows-ext w zero f g h = refl
+rows-ext w (suc n) f g h = λ i. rows-ext w n f g (λ j k. h j (omega arith)) i ⊕ h n (omega arith) i

@@ -47,6 +47,7 @@ sum-positive (suc n) f h v k p = by (native.Mathlib.Decide.decLt v n) (λ l. sum
   where
     rest : (i : ℕ) → i < n → pos 0 ≤ℤ f i
     rest i j = h i (omega arith)
+
     by : Dec (v < n) → (v < n → pos 1 ≤ℤ sum n f) → pos 1 ≤ℤ sum (suc n) f
     by (yes l) ih = omega (arith, lin, ih l, h n (omega arith))
     by (no l) ih = let e : v ≡ n = omega arith in omega (arith, lin, sum-nonneg n f rest, subst (λ (x : ℕ). pos 1 ≤ℤ f x) e p)

@@ -2,7 +2,7 @@
 use mathlib.Core.Path.{_≡_}
 use mathlib.Core.Bool.{cond}
 use mathlib.Core.List.{List, [], _∷_, map}
-use Prim.Native.Nat.{ℕ, suc, _≤_}
+use Prim.Native.Nat.{ℕ, zero, suc, _≤_}
 use lib.Dec.{ltb}
 use lib.IntN.{ℤ, pos, natAbs, _+ℤ_, _-ℤ_, _*ℤ_}
 use lib.Signed.{_≤ℤ_}
@@ -17,6 +17,11 @@ Row = List ℤ
 -- Component i, and 0 past the last.
 abbrev pub part : Row → ℕ → ℤ
 part r i = getD r i (pos 0)
+
+-- The row of width w with the components f 0, …, f (w − 1).
+abbrev pub tabulate : ℕ → (ℕ → ℤ) → Row
+tabulate zero f = []
+tabulate (suc w) f = f 0 ∷ tabulate w (λ i. f (suc i))
 
 abbrev pub zip : (ℤ → ℤ → ℤ) → Row → Row → Row
 zip f [] [] = []
@@ -39,6 +44,10 @@ k ⊙ r = map (λ x. k *ℤ x) r
 -- The row of width w that is all zeros.
 abbrev pub zeros : ℕ → Row
 zeros w = replicate w (pos 0)
+
+-- The row of the cell at place v of a slice, where `row` says what a cell means; no row past the slice's end.
+abbrev pub rowAt : {K : Type 0} → (K → Row) → List K → ℕ → Row
+rowAt row cells v = getD (map row cells) v []
 
 -- The first component whose size is over a limit, the components counted from i.
 abbrev pub beyondFrom : ℕ → ℕ → Row → Option ℕ
