@@ -1,0 +1,9 @@
+pub mod Magnitudes
+pub mod Steps
+pub mod Orthogonal
+pub mod Parts
+pub mod Nodes
+pub mod Nearest
+pub mod Agree
+pub mod Final
+pub mod Recurrences
