@@ -5,3 +5,6 @@ mod shape;
 mod table;
 
 pub use shape::Shape;
+
+#[cfg(test)]
+mod tests;
