@@ -32,8 +32,8 @@ work-then n s s′ s″ o p = record {
   past = p .past ∙ o .past;
 }
 
-pub work-roomy : {K : Type 0} (n : ℕ) (s s′ : Slices K) → OnlyWork n s s′ → Roomy n s → Roomy n s′
-work-roomy n s s′ o r = record {
+pub work-roomy : {K : Type 0} (m n : ℕ) (s s′ : Slices K) → OnlyWork n s s′ → Roomy m s → Roomy m s′
+work-roomy m n s s′ o r = record {
   noisy = omega (arith, ap length (o .noisy), r .noisy);
   numerators = omega (arith, ap length (o .numerators), r .numerators);
   work = omega (arith, o .long, r .work);
@@ -70,8 +70,8 @@ numerators-then n s s′ s″ o p = record {
   past = p .past ∙ o .past;
 }
 
-pub numerators-roomy : {K : Type 0} (n : ℕ) (s s′ : Slices K) → OnlyNumerators n s s′ → Roomy n s → Roomy n s′
-numerators-roomy n s s′ o r = record {
+pub numerators-roomy : {K : Type 0} (m n : ℕ) (s s′ : Slices K) → OnlyNumerators n s s′ → Roomy m s → Roomy m s′
+numerators-roomy m n s s′ o r = record {
   noisy = omega (arith, ap length (o .noisy), r .noisy);
   numerators = omega (arith, o .long, r .numerators);
   work = omega (arith, ap length (o .work), r .work);
@@ -89,9 +89,5 @@ numerators-wider m n s s′ h o =
       past = wide (now (s′ .numerators)) ∙ ap (drop (n - m)) (o .past) ∙ sym (wide (now (s .numerators)));
     }
 
--- a node is inside each slice
-pub numerators-inside : {K : Type 0} (n : ℕ) (s s′ : Slices K) (v : ℕ) → v < n → OnlyNumerators n s s′ → Roomy n s
-    → (v < length (now (s′ .noisy))) × (v < length (now (s′ .work))) × (v < length (now (s′ .numerators)))
-numerators-inside n s s′ v h o r =
-    let q = numerators-roomy n s s′ o r in
-    (omega (arith, q .noisy), omega (arith, q .work), omega (arith, q .numerators))
+pub roomy-less : {K : Type 0} (m n : ℕ) (s : Slices K) → m ≤ n → Roomy n s → Roomy m s
+roomy-less m n s h r = record { noisy = omega (arith, r .noisy); numerators = omega (arith, r .numerators); work = omega (arith, r .work) }

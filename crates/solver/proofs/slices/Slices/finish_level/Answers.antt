@@ -4,9 +4,9 @@ use Prim.Native.Nat.{ℕ, suc, _+_, _-_, _*_, _/_, _^_, _≤_, _<_}
 use native.Mathlib.Nat.{div-le-self}
 use native.Mathlib.Numerals.{add-one}
 use native.Mathlib.Omega.{arith}
-use borrow.Author.Needs.{needs}
 use lib.IntN.{pos}
 use lib.ListN.{length, getD}
+use Rattle.std.proofs.shelf.Lists.{length-set}
 use Rattle.algebra.specs.Row.{Row, rowAt, _⊕_, _⊙_}
 use Rattle.algebra.proofs.Places.{row-copied}
 use Rattle.cells.specs.Calls.{carryLimit}
@@ -16,7 +16,7 @@ use Rattle.shapes.proofs.Sizes.{size-some, size-le}
 use Rattle.inference.specs.Formulas.{Z, C, X}
 use Rattle.solver.specs.Steps.{Settles}
 use Rattle.solver.specs.Passes.{OnlyNumerators, Finished}
-use Rattle.solver.proofs.Only.{numerators-none, numerators-step, numerators-inside, numerators-wider}
+use Rattle.solver.proofs.Only.{numerators-none, numerators-step, numerators-wider, roomy-less}
 use Rattle.solver.proofs.Upward.{level-at}
 use Rattle.solver.proofs.Downward.{Mixed, mixed-none, mixed-more, finished-more, settled-is, settles}
 use Rattle.solver.proofs.slices.Slices.finish_level.Given as given
@@ -26,23 +26,12 @@ use Rattle.solver.proofs.slices.Slices.finish_level.Needs.{After-index-self-v-
 pub div-factor : need.div-factor
 div-factor g c = omega (arith, c .size .ensures .count, size-some (c .args .shape .fanout) (c .args .k + 1) (omega arith))
 
-pub index-self-v : need.index-self-v
-index-self-v g c = numerators-inside (size (c .args .shape .fanout) (c .args .shape .height)) (c .args .self .now) (c .loop-v .self) (c .loop-v .v) (level-node _ _ _ _ (level-at (c .args .shape .fanout) (c .args .shape .height) (c .args .k) _ _ (c .loop-v .v) (c .pre .level) (c .size-first .ensures .count) (c .size-v-end .ensures .count) (c .loop-v .kept .v) (c .loop-v-test .taken))) (numerators-wider _ _ _ _ (omega (arith, c .size-v-end .ensures .count, size-le (c .args .shape .fanout) (c .args .shape .height - c .args .k) (c .args .shape .height) (omega arith))) (c .loop-v .inv .1)) (c .pre .roomy) .1
-
-pub offset-self-v : need.offset-self-v
-offset-self-v g c = let lt : c .loop-v .v < length (c .loop-v .self .work .now) = numerators-inside (size (c .args .shape .fanout) (c .args .shape .height)) (c .args .self .now) (c .loop-v .self) (c .loop-v .v) (level-node _ _ _ _ (level-at (c .args .shape .fanout) (c .args .shape .height) (c .args .k) _ _ (c .loop-v .v) (c .pre .level) (c .size-first .ensures .count) (c .size-v-end .ensures .count) (c .loop-v .kept .v) (c .loop-v-test .taken))) (numerators-wider _ _ _ _ (omega (arith, c .size-v-end .ensures .count, size-le (c .args .shape .fanout) (c .args .shape .height - c .args .k) (c .args .shape .height) (omega arith))) (c .loop-v .inv .1)) (c .pre .roomy) .1 in search needs
-
-pub index-self-v-in-loop-v : need.index-self-v-in-loop-v
-index-self-v-in-loop-v g c = numerators-inside (size (c .args .shape .fanout) (c .args .shape .height)) (c .args .self .now) (c .loop-v .self) (c .loop-v .v) (level-node _ _ _ _ (level-at (c .args .shape .fanout) (c .args .shape .height) (c .args .k) _ _ (c .loop-v .v) (c .pre .level) (c .size-first .ensures .count) (c .size-v-end .ensures .count) (c .loop-v .kept .v) (c .loop-v-test .taken))) (numerators-wider _ _ _ _ (omega (arith, c .size-v-end .ensures .count, size-le (c .args .shape .fanout) (c .args .shape .height - c .args .k) (c .args .shape .height) (omega arith))) (c .loop-v .inv .1)) (c .pre .roomy) .2
-
-pub offset-self-v-in-loop-v : need.offset-self-v-in-loop-v
-offset-self-v-in-loop-v g c = let lt : c .loop-v .v < length (c .loop-v .self .numerators .now) = numerators-inside (size (c .args .shape .fanout) (c .args .shape .height)) (c .args .self .now) (c .loop-v .self) (c .loop-v .v) (level-node _ _ _ _ (level-at (c .args .shape .fanout) (c .args .shape .height) (c .args .k) _ _ (c .loop-v .v) (c .pre .level) (c .size-first .ensures .count) (c .size-v-end .ensures .count) (c .loop-v .kept .v) (c .loop-v-test .taken))) (numerators-wider _ _ _ _ (omega (arith, c .size-v-end .ensures .count, size-le (c .args .shape .fanout) (c .args .shape .height - c .args .k) (c .args .shape .height) (omega arith))) (c .loop-v .inv .1)) (c .pre .roomy) .2 in search needs
-
-pub index-self-v-in-loop-v-2 : need.index-self-v-in-loop-v-2
-index-self-v-in-loop-v-2 g c = numerators-inside (size (c .args .shape .fanout) (c .args .shape .height)) (c .args .self .now) (c .loop-v .self) (c .loop-v .v) (level-node _ _ _ _ (level-at (c .args .shape .fanout) (c .args .shape .height) (c .args .k) _ _ (c .loop-v .v) (c .pre .level) (c .size-first .ensures .count) (c .size-v-end .ensures .count) (c .loop-v .kept .v) (c .loop-v-test .taken))) (numerators-wider _ _ _ _ (omega (arith, c .size-v-end .ensures .count, size-le (c .args .shape .fanout) (c .args .shape .height - c .args .k) (c .args .shape .height) (omega arith))) (c .loop-v .inv .1)) (c .pre .roomy) .2
-
-pub offset-self-v-in-loop-v-2 : need.offset-self-v-in-loop-v-2
-offset-self-v-in-loop-v-2 g c = let lt : c .loop-v .v < length (c .loop-v .self .numerators .now) = numerators-inside (size (c .args .shape .fanout) (c .args .shape .height)) (c .args .self .now) (c .loop-v .self) (c .loop-v .v) (level-node _ _ _ _ (level-at (c .args .shape .fanout) (c .args .shape .height) (c .args .k) _ _ (c .loop-v .v) (c .pre .level) (c .size-first .ensures .count) (c .size-v-end .ensures .count) (c .loop-v .kept .v) (c .loop-v-test .taken))) (numerators-wider _ _ _ _ (omega (arith, c .size-v-end .ensures .count, size-le (c .args .shape .fanout) (c .args .shape .height - c .args .k) (c .args .shape .height) (omega arith))) (c .loop-v .inv .1)) (c .pre .roomy) .2 in search needs
+pub loop-v-holds : need.loop-v-holds
+loop-v-holds g c =
+    let s = c .args .shape in
+    let n = size (s .fanout) (s .height) in
+    let end : c .size-v-end .result ≤ n = omega (arith, c .size-v-end .ensures .count, size-le (s .fanout) (s .height - c .args .k) (s .height) (omega arith)) in
+    (mixed-none _ _ _ _ _ _, numerators-none _ _, roomy-less (c .size-v-end .result) n (c .args .self .now) end (c .pre .roomy))
 
 -- what is read at the node of the turn, and the two factors
 module _ (g : given.Over) (c : need.After-index-self-v-in-loop-v g) where
@@ -55,17 +44,14 @@ module _ (g : given.Over) (c : need.After-index-self-v-in-loop-v g) where
   node : c .loop-v .v < size (c .args .shape .fanout) (c .args .shape .height)
   node = level-node _ _ _ _ o
 
-  long : (c .loop-v .v < length (c .loop-v .self .noisy .now)) × (c .loop-v .v < length (c .loop-v .self .work .now)) × (c .loop-v .v < length (c .loop-v .self .numerators .now))
-  long = numerators-inside (size (c .args .shape .fanout) (c .args .shape .height)) (c .args .self .now) (c .loop-v .self) (c .loop-v .v) (level-node _ _ _ _ (level-at (c .args .shape .fanout) (c .args .shape .height) (c .args .k) _ _ (c .loop-v .v) (c .pre .level) (c .size-first .ensures .count) (c .size-v-end .ensures .count) (c .loop-v .kept .v) (c .loop-v-test .taken))) (numerators-wider _ _ _ _ (omega (arith, c .size-v-end .ensures .count, size-le (c .args .shape .fanout) (c .args .shape .height - c .args .k) (c .args .shape .height) (omega arith))) (c .loop-v .inv .1)) (c .pre .roomy)
-
   gathered-is : g .K·Kind .row (getD (c .loop-v .self .work .now) (c .loop-v .v) (c .index-self-v .result)) ≡ rowAt (g .K·Kind .row) (c .args .self .now .work .now) (c .loop-v .v)
   gathered-is =
-      row-copied (g .K·Kind .row) (c .loop-v .self .work .now) (c .loop-v .v) (c .index-self-v .result) (long .1)
+      row-copied (g .K·Kind .row) (c .loop-v .self .work .now) (c .loop-v .v) (c .index-self-v .result) (omega (arith, c .loop-v .inv .2 .work))
       ∙ ap (λ (xs : List _). rowAt (g .K·Kind .row) xs (c .loop-v .v)) (c .loop-v .inv .1 .work)
 
   carried-is : g .K·Kind .row (getD (c .loop-v .self .numerators .now) (c .loop-v .v) (c .index-self-v-in-loop-v .result)) ≡ rowAt (g .K·Kind .row) (c .args .self .now .numerators .now) (c .loop-v .v)
   carried-is =
-      row-copied (g .K·Kind .row) (c .loop-v .self .numerators .now) (c .loop-v .v) (c .index-self-v-in-loop-v .result) (long .2)
+      row-copied (g .K·Kind .row) (c .loop-v .self .numerators .now) (c .loop-v .v) (c .index-self-v-in-loop-v .result) (omega (arith, c .loop-v .inv .2 .numerators))
       ∙ c .loop-v .inv .0 .left (c .loop-v .v) (omega arith)
 
   factor-is : c .args .d / c .size .result ≡ c .args .d / size (c .args .shape .fanout) (suc (c .args .k))
@@ -90,9 +76,14 @@ pub loop-v-again : need.loop-v-again
 loop-v-again g c =
     let a = need.at·loop-v-again g c .After-index-self-v-in-loop-v in (
       mixed-more (g .K·Kind .row) (c .args .d / c .size .result) (c .power-power .result) (c .size-first .result) (c .loop-v .v) (c .args .self .now .work .now) (c .args .self .now .numerators .now)
-          (c .loop-v .self .numerators .now) (c .settled .result) (c .loop-v .kept .v) (long g a .2)
+          (c .loop-v .self .numerators .now) (c .settled .result) (c .loop-v .kept .v) (omega (arith, c .loop-v .inv .2 .numerators))
           (c .settled .ensures ∙ (λ i. pos (c .args .d / c .size .result) ⊙ gathered-is g a i ⊕ pos (c .power-power .result) ⊙ carried-is g a i)) (c .loop-v .inv .0),
       numerators-step (c .size-v-end .result) (c .args .self .now) (c .loop-v .self) _ (c .loop-v .v) (c .settled .result) (c .loop-v-test .taken) refl refl refl refl (c .loop-v .inv .1),
+      record {
+        noisy = c .loop-v .inv .2 .noisy;
+        numerators = omega (arith, length-set (c .loop-v .self .numerators .now) (c .loop-v .v) (c .settled .result), c .loop-v .inv .2 .numerators);
+        work = c .loop-v .inv .2 .work;
+      },
     )
 
 pub returns : need.returns

@@ -4,7 +4,6 @@ use Prim.Native.Nat.{ℕ, suc, _+_, _-_, _*_, _/_, _≤_, _<_}
 use native.Mathlib.Nat.{div-le-self}
 use native.Mathlib.Numerals.{add-one}
 use native.Mathlib.Omega.{arith}
-use borrow.Author.Needs.{needs}
 use lib.IntN.{pos}
 use lib.ListN.{length, getD}
 use Rattle.std.proofs.shelf.Bits.{mul-le}
@@ -16,7 +15,7 @@ use Rattle.shapes.proofs.Sizes.{size-next, size-some, size-le}
 use Rattle.inference.specs.Formulas.{Z, C}
 use Rattle.cells.specs.Calls.{carryLimit}
 use Rattle.solver.specs.Steps.{Hands}
-use Rattle.solver.proofs.Only.{numerators-none, numerators-write, numerators-inside}
+use Rattle.solver.proofs.Only.{numerators-none, numerators-write, roomy-less}
 use Rattle.solver.proofs.Upward.{level-at, kids-inside}
 use Rattle.solver.proofs.Downward.{hands, handed-is, lowered-more}
 use Rattle.solver.proofs.slices.Slices.lower_level.Given as given
@@ -36,25 +35,8 @@ loop-u-holds g c =
     let k = c .args .k in
     let e : L - k ≡ suc (L - (k + 1)) = omega (arith, c .pre .level .1) in
     let start : b * c .size-first .result + 1 ≡ size b (L - k) = omega (arith, ap (λ (n : ℕ). b * n) (c .size-first .ensures .count), size-next b (L - (k + 1)), ap (size b) e) in
-    ((λ v h n. c .pre .above v (omega (arith, start)) n), numerators-none _ _)
-
-pub index-self-u : need.index-self-u
-index-self-u g c = numerators-inside (size (c .args .shape .fanout) (c .args .shape .height)) (c .args .self .now) (c .loop-u .self) (c .loop-u .u) (level-node _ _ _ _ (level-at (c .args .shape .fanout) (c .args .shape .height) (c .args .k) _ _ (c .loop-u .u) (c .pre .level .1) (c .size-first .ensures .count) (c .size-u-end .ensures .count) (c .loop-u .kept .u) (c .loop-u-test .taken))) (c .loop-u .inv .1) (c .pre .roomy) .0
-
-pub offset-self-u : need.offset-self-u
-offset-self-u g c = let lt : c .loop-u .u < length (c .loop-u .self .noisy .now) = numerators-inside (size (c .args .shape .fanout) (c .args .shape .height)) (c .args .self .now) (c .loop-u .self) (c .loop-u .u) (level-node _ _ _ _ (level-at (c .args .shape .fanout) (c .args .shape .height) (c .args .k) _ _ (c .loop-u .u) (c .pre .level .1) (c .size-first .ensures .count) (c .size-u-end .ensures .count) (c .loop-u .kept .u) (c .loop-u-test .taken))) (c .loop-u .inv .1) (c .pre .roomy) .0 in search needs
-
-pub index-self-u-in-loop-u : need.index-self-u-in-loop-u
-index-self-u-in-loop-u g c = numerators-inside (size (c .args .shape .fanout) (c .args .shape .height)) (c .args .self .now) (c .loop-u .self) (c .loop-u .u) (level-node _ _ _ _ (level-at (c .args .shape .fanout) (c .args .shape .height) (c .args .k) _ _ (c .loop-u .u) (c .pre .level .1) (c .size-first .ensures .count) (c .size-u-end .ensures .count) (c .loop-u .kept .u) (c .loop-u-test .taken))) (c .loop-u .inv .1) (c .pre .roomy) .1
-
-pub offset-self-u-in-loop-u : need.offset-self-u-in-loop-u
-offset-self-u-in-loop-u g c = let lt : c .loop-u .u < length (c .loop-u .self .work .now) = numerators-inside (size (c .args .shape .fanout) (c .args .shape .height)) (c .args .self .now) (c .loop-u .self) (c .loop-u .u) (level-node _ _ _ _ (level-at (c .args .shape .fanout) (c .args .shape .height) (c .args .k) _ _ (c .loop-u .u) (c .pre .level .1) (c .size-first .ensures .count) (c .size-u-end .ensures .count) (c .loop-u .kept .u) (c .loop-u-test .taken))) (c .loop-u .inv .1) (c .pre .roomy) .1 in search needs
-
-pub index-self-u-in-loop-u-2 : need.index-self-u-in-loop-u-2
-index-self-u-in-loop-u-2 g c = numerators-inside (size (c .args .shape .fanout) (c .args .shape .height)) (c .args .self .now) (c .loop-u .self) (c .loop-u .u) (level-node _ _ _ _ (level-at (c .args .shape .fanout) (c .args .shape .height) (c .args .k) _ _ (c .loop-u .u) (c .pre .level .1) (c .size-first .ensures .count) (c .size-u-end .ensures .count) (c .loop-u .kept .u) (c .loop-u-test .taken))) (c .loop-u .inv .1) (c .pre .roomy) .2
-
-pub offset-self-u-in-loop-u-2 : need.offset-self-u-in-loop-u-2
-offset-self-u-in-loop-u-2 g c = let lt : c .loop-u .u < length (c .loop-u .self .numerators .now) = numerators-inside (size (c .args .shape .fanout) (c .args .shape .height)) (c .args .self .now) (c .loop-u .self) (c .loop-u .u) (level-node _ _ _ _ (level-at (c .args .shape .fanout) (c .args .shape .height) (c .args .k) _ _ (c .loop-u .u) (c .pre .level .1) (c .size-first .ensures .count) (c .size-u-end .ensures .count) (c .loop-u .kept .u) (c .loop-u-test .taken))) (c .loop-u .inv .1) (c .pre .roomy) .2 in search needs
+    let end : c .size-u-end .result ≤ size b L = omega (arith, c .size-u-end .ensures .count, size-le b (L - k) L (omega arith)) in
+    ((λ v h n. c .pre .above v (omega (arith, start)) n), numerators-none _ _, roomy-less (c .size-u-end .result) (size b L) (c .args .self .now) end (c .pre .roomy))
 
 -- what is read at the node of the turn, and the two factors
 module _ (g : given.Over) (c : need.After-index-self-u-in-loop-u-2 g) where
@@ -67,15 +49,12 @@ module _ (g : given.Over) (c : need.After-index-self-u-in-loop-u-2 g) where
   node : c .loop-u .u < size (c .args .shape .fanout) (c .args .shape .height)
   node = level-node _ _ _ _ o
 
-  long : (c .loop-u .u < length (c .loop-u .self .noisy .now)) × (c .loop-u .u < length (c .loop-u .self .work .now)) × (c .loop-u .u < length (c .loop-u .self .numerators .now))
-  long = numerators-inside (size (c .args .shape .fanout) (c .args .shape .height)) (c .args .self .now) (c .loop-u .self) (c .loop-u .u) node (c .loop-u .inv .1) (c .pre .roomy)
-
   own-is : g .K·Kind .row (getD (c .loop-u .self .noisy .now) (c .loop-u .u) (c .index-self-u .result)) ≡ t (c .loop-u .u)
-  own-is = row-copied (g .K·Kind .row) (c .loop-u .self .noisy .now) (c .loop-u .u) (c .index-self-u .result) (long .0) ∙ ap (λ (xs : List _). rowAt (g .K·Kind .row) xs (c .loop-u .u)) (c .loop-u .inv .1 .noisy)
+  own-is = row-copied (g .K·Kind .row) (c .loop-u .self .noisy .now) (c .loop-u .u) (c .index-self-u .result) (omega (arith, c .loop-u .inv .2 .noisy)) ∙ ap (λ (xs : List _). rowAt (g .K·Kind .row) xs (c .loop-u .u)) (c .loop-u .inv .1 .noisy)
 
   gathered-is : g .K·Kind .row (getD (c .loop-u .self .work .now) (c .loop-u .u) (c .index-self-u-in-loop-u .result)) ≡ Z (g .K·Kind .width) (c .args .shape .fanout) (c .args .shape .height) t (c .loop-u .u)
   gathered-is =
-      row-copied (g .K·Kind .row) (c .loop-u .self .work .now) (c .loop-u .u) (c .index-self-u-in-loop-u .result) (long .1)
+      row-copied (g .K·Kind .row) (c .loop-u .self .work .now) (c .loop-u .u) (c .index-self-u-in-loop-u .result) (omega (arith, c .loop-u .inv .2 .work))
       ∙ ap (λ (xs : List _). rowAt (g .K·Kind .row) xs (c .loop-u .u)) (c .loop-u .inv .1 .work) ∙ c .pre .raised (c .loop-u .u) (omega arith) node
 
   early : c .loop-u .u < c .args .shape .fanout * c .loop-u .u + 1
@@ -83,7 +62,7 @@ module _ (g : given.Over) (c : need.After-index-self-u-in-loop-u-2 g) where
 
   carried-is : g .K·Kind .row (getD (c .loop-u .self .numerators .now) (c .loop-u .u) (c .index-self-u-in-loop-u-2 .result)) ≡ C (g .K·Kind .width) (c .args .shape .fanout) (c .args .shape .height) (c .args .d) t (c .loop-u .u)
   carried-is =
-      row-copied (g .K·Kind .row) (c .loop-u .self .numerators .now) (c .loop-u .u) (c .index-self-u-in-loop-u-2 .result) (long .2)
+      row-copied (g .K·Kind .row) (c .loop-u .self .numerators .now) (c .loop-u .u) (c .index-self-u-in-loop-u-2 .result) (omega (arith, c .loop-u .inv .2 .numerators))
       ∙ c .loop-u .inv .0 (c .loop-u .u) early node
 
   nodes-is : c .size-nodes .result ≡ size (c .args .shape .fanout) (suc (c .args .k))
@@ -135,6 +114,11 @@ loop-u-again g c =
           (λ j h. c .handed-cell .ensures ∙ hands-C g a j h) (c .loop-u .inv .0),
       numerators-write (size b L) (c .args .self .now) (c .loop-u .self) _ refl refl refl (c .spread .kept .cells)
           (c .spread .ensures .past (size b L) (kids-inside b L (c .args .k) u (hb g a) (c .pre .level .0) (o g a))) (c .loop-u .inv .1),
+      record {
+        noisy = c .loop-u .inv .2 .noisy;
+        numerators = omega (arith, c .spread .kept .cells, c .loop-u .inv .2 .numerators);
+        work = c .loop-u .inv .2 .work;
+      },
     )
 
 pub returns : need.returns

@@ -3,7 +3,6 @@ use mathlib.Core.List.{List}
 use Prim.Native.Nat.{ℕ, suc, _+_, _-_, _*_, _^_, _≤_, _<_}
 use native.Mathlib.Numerals.{add-one}
 use native.Mathlib.Omega.{arith}
-use borrow.Author.Needs.{needs}
 use lib.IntN.{pos}
 use lib.ListN.{length, getD}
 use Rattle.algebra.specs.Row.{Row, rowAt, _⊕_, _⊙_}
@@ -11,26 +10,22 @@ use Rattle.algebra.specs.Sum.{sumRows}
 use Rattle.algebra.proofs.Places.{row-copied}
 use Rattle.shapes.specs.Tree.{size, Level}
 use Rattle.shapes.proofs.Heights.{level-node}
+use Rattle.shapes.proofs.Sizes.{size-le}
+use Rattle.std.proofs.shelf.Lists.{length-set}
 use Rattle.inference.specs.Formulas.{Z}
-use Rattle.solver.proofs.Only.{work-none, work-step}
+use Rattle.solver.proofs.Only.{work-none, work-step, roomy-less}
 use Rattle.solver.proofs.Upward.{level-here, kids-inside, kids-within, lifted-is, lifts}
 use Rattle.solver.proofs.Writes.{written}
 use Rattle.solver.proofs.slices.Slices.raise_level.Given as given
 use Rattle.solver.proofs.slices.Slices.raise_level.Needs as need
 use Rattle.solver.proofs.slices.Slices.raise_level.Needs.{After-gather-kids, After-index-self-v}
 
-pub index-self-v : need.index-self-v
-index-self-v g c =
+pub loop-v-holds : need.loop-v-holds
+loop-v-holds g c =
     let s = c .args .shape in
-    let o = level-here (s .fanout) (s .height) (c .args .k) _ _ (c .loop-v .v) (c .pre .level .1) (c .size-first .ensures .count) (c .size-v .ensures .count) (c .loop-v-test .taken) (c .loop-v .kept .v) in
-    omega (arith, level-node (s .fanout) (s .height) (suc (c .args .k)) (c .loop-v .v - 1) o, ap length (c .loop-v .inv .1 .noisy), c .pre .roomy .noisy)
-
-pub offset-self-v : need.offset-self-v
-offset-self-v g c =
-    let s = c .args .shape in
-    let o = level-here (s .fanout) (s .height) (c .args .k) _ _ (c .loop-v .v) (c .pre .level .1) (c .size-first .ensures .count) (c .size-v .ensures .count) (c .loop-v-test .taken) (c .loop-v .kept .v) in
-    let lt : c .loop-v .v - 1 < length (c .loop-v .self .noisy .now) = omega (arith, level-node (s .fanout) (s .height) (suc (c .args .k)) (c .loop-v .v - 1) o, ap length (c .loop-v .inv .1 .noisy), c .pre .roomy .noisy) in
-    search needs
+    let n = size (s .fanout) (s .height) in
+    let end : c .size-v .result ≤ n = omega (arith, c .size-v .ensures .count, size-le (s .fanout) (s .height - c .args .k) (s .height) (omega arith)) in
+    ((λ v h l. c .pre .below v (omega (arith, c .size-v .ensures .count)) l), work-none _ _, roomy-less (c .size-v .result) n (c .args .self .now) end (c .pre .roomy))
 
 pub gather-kids-requires : need.gather-kids-requires
 gather-kids-requires g c κs =
@@ -71,19 +66,6 @@ lifted-requires g c κs =
           (λ v l n. c .loop-v .inv .0 v (omega arith) n) (c .power-power .result) _ _ (c .power-power .ensures .count) (own-row g (need.at·lifted-requires g c .After-index-self-v) inside) (c .gather-kids .ensures .value);
     }
 
-pub index-self-v-in-loop-v : need.index-self-v-in-loop-v
-index-self-v-in-loop-v g c =
-    let s = c .args .shape in
-    let o = level-here (s .fanout) (s .height) (c .args .k) _ _ (c .loop-v .v) (c .pre .level .1) (c .size-first .ensures .count) (c .size-v .ensures .count) (c .loop-v-test .taken) (c .loop-v .kept .v) in
-    omega (arith, level-node (s .fanout) (s .height) (suc (c .args .k)) (c .loop-v .v - 1) o, ap length (c .gather-kids .ensures .same), c .loop-v .inv .1 .long, c .pre .roomy .work)
-
-pub offset-self-v-in-loop-v : need.offset-self-v-in-loop-v
-offset-self-v-in-loop-v g c =
-    let s = c .args .shape in
-    let o = level-here (s .fanout) (s .height) (c .args .k) _ _ (c .loop-v .v) (c .pre .level .1) (c .size-first .ensures .count) (c .size-v .ensures .count) (c .loop-v-test .taken) (c .loop-v .kept .v) in
-    let lt : c .loop-v .v - 1 < length (c .gather-kids .last .cells) = omega (arith, level-node (s .fanout) (s .height) (suc (c .args .k)) (c .loop-v .v - 1) o, ap length (c .gather-kids .ensures .same), c .loop-v .inv .1 .long, c .pre .roomy .work) in
-    search needs
-
 pub loop-v-again : need.loop-v-again
 loop-v-again g c =
     let s = c .args .shape in
@@ -108,4 +90,9 @@ loop-v-again g c =
           (λ x p q. ap (λ (xs : List _). rowAt row xs x) (c .gather-kids .ensures .same) ∙ inv .0 x (omega (arith, p .0)) (p .1)) v (h, n)),
       work-step (size b L) (c .args .self .now) (c .loop-v .self) _ u (c .lifted .result) node refl refl refl
           (ap (λ (xs : List _). lib.ListN.set xs u (c .lifted .result)) (c .gather-kids .ensures .same)) (inv .1),
+      record {
+        noisy = inv .2 .noisy;
+        numerators = inv .2 .numerators;
+        work = omega (arith, length-set (c .gather-kids .last .cells) u (c .lifted .result), ap length (c .gather-kids .ensures .same), inv .2 .work);
+      },
     )

@@ -37,7 +37,7 @@ lower-requires g c κs =
     let o = c .raise .ensures .only in
     record {
       small = c .denominator-d .ensures .law .high;
-      roomy = work-roomy (size b L) x y o (c .pre .roomy);
+      roomy = work-roomy (size b L) (size b L) x y o (c .pre .roomy);
       bounded = bounded-moved row w b L d carryLimit (x .noisy .now) (y .noisy .now) (o .noisy) (counts-bounded w b L d (rowAt row (x .noisy .now)) (s .shapely) (c .denominator-d .ensures .law) (c .pre .counts));
       raised = raised-moved row w b L d 0 (x .noisy .now) (y .noisy .now) (y .work .now) (y .work .now) (o .noisy) refl (c .raise .ensures .raised);
     }
@@ -58,7 +58,7 @@ finish-requires g c κs =
     let same : z .noisy .now ≡ x .noisy .now = p .noisy ∙ o .noisy in
     record {
       small = c .denominator-d .ensures .law .high;
-      roomy = numerators-roomy (size b L) y z p (work-roomy (size b L) x y o (c .pre .roomy));
+      roomy = numerators-roomy (size b L) (size b L) y z p (work-roomy (size b L) (size b L) x y o (c .pre .roomy));
       bounded = bounded-moved row w b L d carryLimit (x .noisy .now) (z .noisy .now) same (counts-bounded w b L d (rowAt row (x .noisy .now)) (s .shapely) (c .denominator-d .ensures .law) (c .pre .counts));
       raised = raised-moved row w b L d 0 (x .noisy .now) (z .noisy .now) (y .work .now) (z .work .now) same (p .work) (c .raise .ensures .raised);
       lowered = lowered-moved row w b L d (size b L) (y .noisy .now) (z .noisy .now) (z .numerators .now) (z .numerators .now) (p .noisy) refl (c .lower .ensures .lowered);
