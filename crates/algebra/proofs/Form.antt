@@ -1,10 +1,10 @@
 -- Rows without their width: a row is read as a function from places to integers, and a form on these is symmetric and linear.
-use mathlib.Core.Path.{_≡_, refl, sym, _∙_, ap, subst, fun-ext}
-use Prim.Native.Nat.{ℕ, zero, suc, _+_, _*_, _≤_, _<_}
+use mathlib.Core.Path.{_≡_, sym, _∙_, ap, fun-ext}
+use Prim.Native.Nat.{ℕ, zero, suc}
 use native.Mathlib.Omega.{arith}
 use lib.IntN.{ℤ, pos, _+ℤ_, _-ℤ_, _*ℤ_, negℤ, sucℤ, predℤ, zero-*ℤ, sucℤ-*ℤ, predℤ-*ℤ}
-use lib.Signed.{_<ℤ_, _≤ℤ_}
-use Rattle.algebra.proofs.Ring.{ring, lin, dist, dist-left, assoc, by-steps}
+use lib.Signed.{_≤ℤ_}
+use Rattle.algebra.proofs.Ring.{ring, lin, assoc, by-steps}
 use Rattle.algebra.specs.Sum.{sum}
 
 abbrev pub M : Type 0

@@ -1,12 +1,12 @@
 -- Rows of width w, read by their components.
 use mathlib.Core.Path.{_≡_, refl, sym, _∙_, ap, subst}
-use mathlib.Core.List.{List, [], _∷_, map}
-use Prim.Native.Nat.{ℕ, zero, suc, _+_, _*_, _≤_, _<_}
+use mathlib.Core.List.{[], _∷_}
+use Prim.Native.Nat.{ℕ, zero, suc, _<_}
 use native.Mathlib.Omega.{arith}
-use lib.IntN.{ℤ, pos, _+ℤ_, _-ℤ_, _*ℤ_, negℤ, ℤ-discrete, *ℤ-zero}
-use lib.Signed.{_<ℤ_, _≤ℤ_}
-use lib.ListN.{length, getD}
-use Rattle.algebra.proofs.Ring.{ring, lin}
+use lib.IntN.{ℤ, pos, _+ℤ_, _-ℤ_, _*ℤ_, ℤ-discrete, *ℤ-zero}
+use lib.Signed.{_≤ℤ_}
+use lib.ListN.{length}
+use Rattle.algebra.proofs.Ring.{lin}
 use Rattle.algebra.proofs.Form.{M, Form}
 use Rattle.std.proofs.shelf.Lists.{length-replicate}
 use Rattle.algebra.specs.Row.{Row, part, tabulate, zip, _⊕_, _⊖_, _⊙_, zeros, Product}

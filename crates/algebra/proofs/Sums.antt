@@ -1,11 +1,11 @@
 -- Finite sums of integers.
-use mathlib.Core.Path.{_≡_, refl, sym, _∙_, ap, subst}
-use Prim.Native.Nat.{ℕ, zero, suc, _+_, _*_, _≤_, _<_}
+use mathlib.Core.Path.{_≡_, refl, sym, ap, subst}
+use Prim.Native.Nat.{ℕ, zero, suc, _+_, _*_, _<_}
 use native.Mathlib.Nat.{add-zero, add-suc, mul-zero, mul-suc}
 use native.Mathlib.Omega.{arith}
-use lib.IntN.{ℤ, pos, _+ℤ_, _-ℤ_, _*ℤ_, negℤ, *ℤ-zero, +ℤ-idr}
-use lib.Signed.{_<ℤ_, _≤ℤ_}
-use Rattle.algebra.proofs.Ring.{ring, lin, dist, dist-left}
+use lib.IntN.{ℤ, pos, _+ℤ_, _-ℤ_, _*ℤ_, *ℤ-zero, +ℤ-idr}
+use lib.Signed.{_≤ℤ_}
+use Rattle.algebra.proofs.Ring.{lin, dist-left}
 use Rattle.algebra.specs.Sum.{sum}
 
 pub sum-ext : (n : ℕ) (f g : ℕ → ℤ) → ((i : ℕ) → i < n → f i ≡ g i) → sum n f ≡ sum n g

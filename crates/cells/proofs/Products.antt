@@ -6,7 +6,7 @@ use native.Mathlib.Omega.{arith}
 use lib.IntN.{ℤ, pos, negsuc, _+ℤ_, _-ℤ_, _*ℤ_, ℤ-discrete, *ℤ-comm}
 use lib.Signed.{_≤ℤ_}
 use lib.ListN.{length}
-use Rattle.algebra.proofs.Ring.{ring, sorted, lin, dist}
+use Rattle.algebra.proofs.Ring.{sorted, lin, dist}
 use Rattle.algebra.proofs.Rows.{part-add}
 use Rattle.algebra.specs.Row.{Row, part, zeros, Product, _⊕_}
 use Rattle.cells.specs.Products.{single, pair, four}

@@ -8,11 +8,11 @@ use lib.Dec.{ltb}
 use lib.IntN.{pos}
 use lib.ListN.{length}
 use Rattle.std.proofs.shelf.Tests.{lt-ltb, le-ltb}
-use Rattle.algebra.specs.Row.{Row, zeros, _⊕_, _⊖_, _⊙_}
+use Rattle.algebra.specs.Row.{zeros, _⊕_, _⊖_, _⊙_}
 use Rattle.algebra.proofs.Rows.{rows-ext, zeros-length}
 use Rattle.shapes.specs.Tree.{size, child, parent, height, Level}
 use Rattle.shapes.proofs.Heights.{level-node, node-level, child-level, parent-level}
-use Rattle.inference.specs.Table.{Table, overChildren}
+use Rattle.inference.specs.Table.{Table}
 use Rattle.inference.specs.Formulas.{Z-at, share, C-at, X-at, Z, X}
 
 -- a table with zeros past the last of N nodes

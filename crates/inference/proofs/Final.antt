@@ -1,20 +1,19 @@
 -- The table of the formulas is the nearest, for any counts with rows of width w at the nodes.
 use mathlib.Core.Path.{_≡_, refl, sym, _∙_, ap, subst}
-use Prim.Native.Nat.{ℕ, zero, suc, _+_, _-_, _*_, _%_, _≤_, _<_}
+use Prim.Native.Nat.{ℕ, zero, suc, _-_, _*_, _%_, _≤_, _<_}
 use native.Mathlib.Nat.{mod-eq-zero-of-dvd}
 use native.Mathlib.Omega.{arith}
 use lib.IntN.{ℤ, pos, _*ℤ_}
 use lib.Signed.{_<ℤ_}
 use lib.ListN.{length}
 use Rattle.algebra.specs.Row.{Row, _⊖_, _⊙_, Product}
-use Rattle.algebra.specs.Sum.{sum}
 use Rattle.algebra.proofs.Rows.{rows-ext}
 use Rattle.algebra.proofs.Sums.{sum-ext}
 use Rattle.shapes.specs.Tree.{size, child}
-use Rattle.shapes.proofs.Sizes.{child-below, size-le}
+use Rattle.shapes.proofs.Sizes.{child-below}
 use Rattle.inference.specs.Table.{Table, Sized, overChildren, AddsUp}
 use Rattle.inference.specs.Formulas.{X}
-use Rattle.inference.specs.Nearest.{distance, times, Rival, Another, Nearer, Nearest, Multiple, Tree-nearest}
+use Rattle.inference.specs.Nearest.{distance, times, Nearest, Multiple, Tree-nearest}
 use Rattle.inference.proofs.Agree.{X-agree, clip, clip-in, clip-sized}
 use Rattle.inference.proofs.Nearest.{X-adds, X-nearer}
 

@@ -1,11 +1,11 @@
 -- How large the numbers of the two passes get: with every count within T, nothing exceeds 64 × D × T on a tree of height at most 10.
-use mathlib.Core.Path.{_≡_, refl, sym, _∙_, ap, subst}
+use mathlib.Core.Path.{_≡_, sym, ap, subst}
 use Prim.Native.Nat.{ℕ, zero, suc, _+_, _-_, _*_, _/_, _^_, _≤_, _<_}
 use native.Mathlib.Nat.{mul-le-mul-left, pow-zero, pow-succ', one-le-pow, div-add-mod'}
 use native.Mathlib.Omega.{arith}
 use lib.IntN.{pos, natAbs}
 use Rattle.std.proofs.shelf.Bits.{mul-le}
-use Rattle.algebra.specs.Row.{Row, part, zeros, Within, _⊕_, _⊖_, _⊙_}
+use Rattle.algebra.specs.Row.{Row, part, Within, _⊕_, _⊖_, _⊙_}
 use Rattle.algebra.specs.Sum.{sumRows}
 use Rattle.algebra.proofs.Limits.{within-more, within-add, within-sub, within-times, within-rows, within-zeros, add-size, times-size}
 use Rattle.shapes.specs.Tree.{size, child, parent, Level}

@@ -1,21 +1,21 @@
 -- The solved X over D is the nearest table that adds up, where every row has width w.
-use mathlib.Core.Path.{_≡_, refl, sym, _∙_, ap, subst, fun-ext}
-use Prim.Native.Nat.{ℕ, zero, suc, _+_, _-_, _*_, _/_, _%_, _^_, _≤_, _<_}
+use mathlib.Core.Path.{_≡_, sym, _∙_, ap, subst, fun-ext}
+use Prim.Native.Nat.{ℕ, suc, _-_, _*_, _%_, _^_, _≤_, _<_}
 use native.Mathlib.Omega.{arith}
-use lib.IntN.{ℤ, pos, _+ℤ_, _-ℤ_, _*ℤ_, negℤ}
+use lib.IntN.{ℤ, pos, _-ℤ_, _*ℤ_}
 use lib.Signed.{_≤ℤ_, _<ℤ_}
 use lib.ListN.{length}
-use Rattle.algebra.proofs.Ring.{ring, lin}
+use Rattle.algebra.proofs.Ring.{lin}
 use Rattle.algebra.proofs.Sums.{sum-ext, sum-sub, sum-scale, sum-positive}
 use Rattle.algebra.proofs.Form.{M, Form}
-use Rattle.inference.proofs.Orthogonal.{Errors, orthogonal, pythagoras, gap, error, rival}
+use Rattle.inference.proofs.Orthogonal.{Errors, orthogonal, pythagoras, gap}
 use Rattle.algebra.proofs.Rows.{tabulate-part, zip-length, scale-length, rows-length, part-sub, part-rows, part-scale, part-zeros, same-row, P, P-form, P-positive, P-is, same-where-zero}
 use Rattle.shapes.proofs.Sizes.{size-next, size-positive}
 use Rattle.shapes.proofs.Heights.{height-leaf, height-root, under, levels}
 use Rattle.inference.proofs.Parts.{parts, Parts}
 use Rattle.inference.proofs.Nodes.{X-length, sums-up, errs, leaf-errs, carried, C-child}
-use Rattle.algebra.specs.Row.{Row, part, tabulate, _⊕_, _⊖_, _⊙_, zeros, Product}
-use Rattle.algebra.specs.Sum.{sum, sumRows}
+use Rattle.algebra.specs.Row.{Row, part, tabulate, _⊖_, zeros, Product}
+use Rattle.algebra.specs.Sum.{sum}
 use Rattle.shapes.specs.Tree.{size, child, height}
 use Rattle.inference.specs.Table.{Table, overChildren, AddsUp}
 use Rattle.inference.specs.Nearest.{distance, times}

@@ -1,17 +1,17 @@
 -- Z, C and X part one node, by their components: a parent's X is the sum of its children's, and its error is S_k C − S_(k−1) C of a child.
-use mathlib.Core.Path.{_≡_, refl, sym, _∙_, ap, subst}
-use Prim.Native.Nat.{ℕ, zero, suc, _+_, _-_, _*_, _/_, _%_, _^_, _≤_, _<_}
+use mathlib.Core.Path.{_≡_, sym, _∙_, ap}
+use Prim.Native.Nat.{ℕ, zero, suc, _-_, _*_, _/_, _^_, _≤_, _<_}
 use native.Mathlib.Nat.{pow-succ', pow-zero, div-one}
 use native.Mathlib.Omega.{arith}
-use lib.IntN.{ℤ, pos, _+ℤ_, _-ℤ_, _*ℤ_, negℤ}
+use lib.IntN.{ℤ, pos, _+ℤ_, _-ℤ_, _*ℤ_}
 use lib.ListN.{length}
 use Rattle.algebra.proofs.Ring.{ring, lin, assoc}
 use Rattle.algebra.proofs.Sums.{sum-ext, sum-add, sum-scale, sum-const}
-use Rattle.algebra.proofs.Rows.{zip-length, scale-length, zeros-length, rows-length, part-add, part-sub, part-rows, part-scale, part-zeros}
+use Rattle.algebra.proofs.Rows.{zip-length, scale-length, zeros-length, rows-length, part-add, part-sub, part-rows, part-scale}
 use Rattle.shapes.proofs.Sizes.{parent-of}
 use Rattle.inference.proofs.Parts.{Parts}
-use Rattle.algebra.specs.Row.{Row, part, _⊕_, _⊖_, _⊙_, zeros}
-use Rattle.algebra.specs.Sum.{sum, sumRows}
+use Rattle.algebra.specs.Row.{Row, part, _⊕_, _⊖_, _⊙_}
+use Rattle.algebra.specs.Sum.{sum}
 use Rattle.shapes.specs.Tree.{size, child, parent}
 use Rattle.inference.specs.Table.{Table, overChildren}
 use Rattle.inference.specs.Formulas.{share, Z-at as Z, C-at as C, X-at as Xat}

@@ -1,11 +1,10 @@
 -- The two facts behind nearness, over functions of the places: what adds up is orthogonal to the error, and Pythagoras.
-use mathlib.Core.Path.{_≡_, refl, sym, _∙_, ap, subst, fun-ext}
-use Prim.Native.Nat.{ℕ, zero, suc, _+_, _*_, _≤_, _<_}
+use mathlib.Core.Path.{_≡_, sym, _∙_, ap, fun-ext}
+use Prim.Native.Nat.{ℕ, _+_, _*_, _≤_, _<_}
 use native.Mathlib.Omega.{arith}
-use lib.IntN.{ℤ, pos, _+ℤ_, _-ℤ_, _*ℤ_, negℤ, zero-*ℤ, *ℤ-zero, +ℤ-idl}
-use lib.Signed.{_<ℤ_, _≤ℤ_}
-use Rattle.algebra.proofs.Ring.{ring, lin, dist, dist-left}
-use Rattle.algebra.proofs.Sums.{sum-ext, sum-add, sum-sub, sum-scale, sum-split, sum-positive, regroup}
+use lib.IntN.{ℤ, pos, _+ℤ_, _-ℤ_, _*ℤ_, *ℤ-zero}
+use Rattle.algebra.proofs.Ring.{ring, lin}
+use Rattle.algebra.proofs.Sums.{sum-ext, sum-add, sum-sub, sum-scale, sum-split, regroup}
 use Rattle.algebra.proofs.Form.{M, Form, same, scale, sub, null, over-sum, square, scale-square}
 use Rattle.algebra.specs.Sum.{sum}
 use Rattle.shapes.specs.Tree.{child}

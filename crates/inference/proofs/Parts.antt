@@ -1,5 +1,5 @@
 -- The quotients of D by adjoining sizes.
-use mathlib.Core.Path.{_≡_, refl, sym, _∙_, ap, subst}
+use mathlib.Core.Path.{_≡_, refl, _∙_, ap}
 use Prim.Native.Nat.{ℕ, _+_, _-_, _*_, _/_, _%_, _≤_, _<_}
 use native.Mathlib.Nat.{div-eq-of-eq-mul-right, div-add-mod, mul-le-mul-left}
 use native.Mathlib.Decide.{decLt}

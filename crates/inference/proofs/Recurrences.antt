@@ -1,13 +1,13 @@
 -- The published recurrences, from the formulas.
-use mathlib.Core.Path.{_≡_, refl, sym, _∙_, ap, subst}
-use mathlib.Core.List.{List, [], _∷_, map}
-use Prim.Native.Nat.{ℕ, zero, suc, _+_, _-_, _*_, _/_, _%_, _^_, _≤_, _<_}
+use mathlib.Core.Path.{_≡_, refl, sym, _∙_, ap}
+use mathlib.Core.List.{[], _∷_}
+use Prim.Native.Nat.{ℕ, zero, suc, _-_, _*_, _/_, _%_, _^_, _≤_, _<_}
 use native.Mathlib.Nat.{pow-zero, pow-succ', div-add-mod, mod-eq-zero-of-dvd}
 use native.Mathlib.Omega.{arith}
 use lib.IntN.{ℤ, pos, _+ℤ_, _-ℤ_, _*ℤ_, *ℤ-zero, +ℤ-idr}
 use lib.ListN.{length}
 use Rattle.algebra.specs.Row.{Row, part, zeros, _⊕_, _⊖_, _⊙_}
-use Rattle.algebra.specs.Sum.{sum, sumRows}
+use Rattle.algebra.specs.Sum.{sum}
 use Rattle.algebra.proofs.Ring.{ring, lin, assoc, left-comm}
 use Rattle.algebra.proofs.Rows.{zip-length, scale-length, rows-length, part-add, part-sub, part-scale, part-rows, part-zeros, same-row, rows-ext, zeros-length}
 use Rattle.shapes.specs.Tree.{size, child, height, Level}
@@ -19,7 +19,7 @@ use Rattle.inference.specs.TwoPass.{Same, TwoPass, Two-pass}
 use Rattle.inference.proofs.Agree.{Z-node-agree, X-agree, clip, clip-in, clip-sized}
 use Rattle.inference.proofs.Parts.{Parts, parts}
 use Rattle.inference.proofs.Steps.{Z-parent}
-use Rattle.inference.proofs.Nodes.{Z-length, C-length, X-length, X-parent, X-child}
+use Rattle.inference.proofs.Nodes.{Z-length, X-length, X-parent, X-child}
 
 scale-swap : (a c : ℤ) (r : Row) → a ⊙ (c ⊙ r) ≡ c ⊙ (a ⊙ r)
 scale-swap a c [] = refl

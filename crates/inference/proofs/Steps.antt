@@ -1,13 +1,13 @@
 -- The formulas one step at a time, as a program works them out.
-use mathlib.Core.Path.{_≡_, refl, sym, _∙_, ap, subst}
-use Prim.Native.Nat.{ℕ, zero, suc, _+_, _-_, _*_, _/_, _^_, _≤_, _<_}
+use mathlib.Core.Path.{_≡_, refl, sym, _∙_, ap}
+use Prim.Native.Nat.{ℕ, zero, suc, _+_, _-_, _^_, _≤_, _<_}
 use native.Mathlib.Omega.{arith}
 use lib.IntN.{ℤ, pos, _+ℤ_, _-ℤ_, _*ℤ_}
 use lib.ListN.{length}
-use Rattle.algebra.specs.Row.{Row, part, zeros, _⊕_, _⊖_, _⊙_}
+use Rattle.algebra.specs.Row.{Row, part, _⊕_, _⊖_, _⊙_}
 use Rattle.algebra.proofs.Ring.{ring, lin}
-use Rattle.algebra.proofs.Rows.{zip-length, scale-length, zeros-length, rows-length, part-add, part-sub, part-scale, same-row}
-use Rattle.shapes.specs.Tree.{size, child, parent, Level}
+use Rattle.algebra.proofs.Rows.{zip-length, scale-length, rows-length, part-add, part-sub, part-scale, same-row}
+use Rattle.shapes.specs.Tree.{size, child, Level}
 use Rattle.shapes.proofs.Sizes.{parent-of}
 use Rattle.shapes.proofs.Heights.{level-node, child-level}
 use Rattle.inference.specs.Table.{Table, Sized, overChildren}

@@ -1,14 +1,14 @@
 -- The rule of the table of denominators, proved over all rows by one computed test.
 use mathlib.Core.Path.{_≡_, refl, sym, _∙_, ap, subst}
-use mathlib.Core.Bool.{Bool, true, false, not, cond, _&&_}
+use mathlib.Core.Bool.{Bool, true, not, cond, _&&_}
 use mathlib.Core.List.{List, [], _∷_}
 use mathlib.Core.Logic.{_⊎_, inl, inr, ∥∥₁-elim, ⊎-elim}
-use Prim.Native.Nat.{ℕ, zero, suc, _+_, _-_, _*_, _/_, _%_, _^_, _≤_, _<_, _∣_}
-use native.Mathlib.Nat.{mod-lt, div-add-mod, dvd-of-mod-eq-zero, mod-eq-zero-of-dvd, dvd-mul-right, dvd-mul-left-of-dvd, mul-comm, dvd-add-iff-right, one-dvd, ∣-prop, mul-assoc, mul-add, le-of-suc-le-suc, not-suc-le-zero}
+use Prim.Native.Nat.{ℕ, zero, suc, _+_, _-_, _*_, _/_, _%_, _≤_, _<_, _∣_}
+use native.Mathlib.Nat.{mod-lt, div-add-mod, dvd-of-mod-eq-zero, mod-eq-zero-of-dvd, dvd-mul-right, dvd-mul-left-of-dvd, mul-comm, dvd-add-iff-right, one-dvd, ∣-prop, mul-assoc, le-of-suc-le-suc, not-suc-le-zero}
 use native.Mathlib.Omega.{arith}
-use lib.Dec.{T, ltb, leb, eqb}
+use lib.Dec.{ltb, leb, eqb}
 use lib.ListN.{length, getD}
-use Rattle.std.proofs.shelf.Tests.{and-parts, cond-false, le-ltb, eqb-true, eqb-false, leb-true, ltb-true, ltb-false, not-true, cases-eq, cases-order, cases-lt}
+use Rattle.std.proofs.shelf.Tests.{and-parts, cond-false, le-ltb, eqb-true, eqb-false, leb-true, ltb-true, not-true, cases-eq, cases-order}
 use Rattle.shapes.specs.Tree.{size}
 use Rattle.shapes.specs.Laid.{Shapely}
 use Rattle.shapes.specs.Denominator.{Least, Denominator, largest, denominators, denominatorOf}

@@ -1,9 +1,8 @@
 -- How the sizes of complete trees grow, and where children and parents lie.
-use mathlib.Core.Path.{_≡_, refl, sym, _∙_, ap, subst}
-use Prim.Native.Nat.{ℕ, zero, suc, _+_, _-_, _*_, _/_, _%_, _^_, _≤_, _<_}
+use mathlib.Core.Path.{_≡_, sym, _∙_, ap, subst}
+use Prim.Native.Nat.{ℕ, zero, suc, _+_, _-_, _*_, _/_, _^_, _≤_, _<_}
 use native.Mathlib.Nat.{pow-zero, pow-succ', add-zero, add-suc, pow-le-pow-left, mul-le-mul-left, mul-add-div, div-eq-of-lt}
 use native.Mathlib.Omega.{arith}
-use Rattle.std.proofs.shelf.Bits.{mul-le}
 use Rattle.shapes.specs.Tree.{size, child, parent}
 use Rattle.shapes.specs.Laid.{Shapely}
 

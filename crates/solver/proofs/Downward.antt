@@ -2,7 +2,7 @@
 use mathlib.Core.Path.{_≡_, refl, sym, _∙_, ap, subst}
 use mathlib.Core.List.{List}
 use mathlib.Core.Logic.{_≢_, _⊎_, inl, inr}
-use Prim.Native.Nat.{ℕ, zero, suc, _+_, _-_, _*_, _/_, _^_, _≤_, _<_}
+use Prim.Native.Nat.{ℕ, suc, _+_, _-_, _*_, _/_, _^_, _≤_, _<_}
 use native.Mathlib.Nat.{pow-zero}
 use native.Mathlib.Omega.{arith}
 use lib.IntN.{pos}
@@ -10,8 +10,7 @@ use lib.ListN.{length, set}
 use Rattle.std.proofs.shelf.Tests.{cases-lt}
 use Rattle.algebra.specs.Row.{Row, Within, rowAt, zeros, _⊕_, _⊖_, _⊙_}
 use Rattle.shapes.specs.Tree.{size, child, height, Level}
-use Rattle.shapes.proofs.Heights.{level-height, level-node, child-level, height-root}
-use Rattle.shapes.proofs.Sizes.{size-next}
+use Rattle.shapes.proofs.Heights.{level-height, child-level, height-root}
 use Rattle.inference.specs.Table.{Table, Sized, overChildren}
 use Rattle.inference.specs.Formulas.{Z-at, share, C-at, X-at, Z, C, X}
 use Rattle.inference.specs.Bounds.{Bounded}

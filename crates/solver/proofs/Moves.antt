@@ -1,12 +1,12 @@
 -- What holds of some slices holds of slices with the same contents.
-use mathlib.Core.Path.{_≡_, refl, sym, _∙_, ap, subst}
+use mathlib.Core.Path.{_≡_, sym, subst}
 use mathlib.Core.List.{List}
-use Prim.Native.Nat.{ℕ, _≤_, _<_, _*_}
+use Prim.Native.Nat.{ℕ, _<_}
 use native.Mathlib.Omega.{arith}
 use native.Mathlib.Nat.{le-of-dvd}
 use Rattle.algebra.specs.Row.{Row, Within, rowAt}
 use Rattle.cells.specs.Calls.{carryLimit}
-use Rattle.shapes.specs.Denominator.{Denominator, largest}
+use Rattle.shapes.specs.Denominator.{Denominator}
 use Rattle.shapes.specs.Laid.{Shapely, entryLimit}
 use Rattle.shapes.specs.Tree.{size}
 use Rattle.inference.specs.Bounds.{Bounded}

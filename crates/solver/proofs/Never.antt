@@ -1,17 +1,16 @@
 -- A kind's call is not denied where the row that it answers is within the carry limit.
-use mathlib.Core.Path.{_≡_, refl, sym, _∙_, ap, subst}
+use mathlib.Core.Path.{_≡_, refl, ap, subst}
 use mathlib.Core.Bool.{true, cond}
 use mathlib.Core.List.{List}
 use Prim.Native.Nat.{ℕ}
 use native.Mathlib.Omega.{arith}
-use lib.IntN.{pos}
 use Rattle.std.specs.Options.{isSome, valueOr}
 use Rattle.std.specs.Results.{isOk}
 use Rattle.std.specs.declared.option.Option.{Option}
 use Rattle.std.specs.declared.option.Option.the-variants.{Some, None}
 use Rattle.std.specs.declared.result.Result.{Result}
 use Rattle.std.specs.declared.result.Result.the-variants.{Ok, Err}
-use Rattle.algebra.specs.Row.{Row, Within, beyond}
+use Rattle.algebra.specs.Row.{Row, Within}
 use Rattle.algebra.proofs.Limits.{within-none}
 use Rattle.cells.specs.Calls.{carryLimit, carryRules}
 use Rattle.denial.specs.Rules.{Rule, Answers, first, denied}

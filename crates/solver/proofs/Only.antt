@@ -1,5 +1,5 @@
 -- What the passes leave alone: at the start, after one write, and one pass after another.
-use mathlib.Core.Path.{_≡_, refl, sym, _∙_, ap, subst}
+use mathlib.Core.Path.{_≡_, refl, sym, _∙_, ap}
 use mathlib.Core.List.{List}
 use Prim.Native.Nat.{ℕ, _+_, _-_, _≤_, _<_}
 use native.Mathlib.Omega.{arith}
@@ -21,15 +21,6 @@ work-step n s s′ s″ v x h en em el ew o = record {
   numerators = ap now em ∙ o .numerators;
   long = ap length ew ∙ length-set (now (s′ .work)) v x ∙ o .long;
   past = ap (drop n) ew ∙ drop-set-lt n (now (s′ .work)) v x h ∙ o .past;
-}
-
-pub work-then : {K : Type 0} (n : ℕ) (s s′ s″ : Slices K) → OnlyWork n s s′ → OnlyWork n s′ s″ → OnlyWork n s s″
-work-then n s s′ s″ o p = record {
-  lent = (p .lent .0 ∙ o .lent .0, p .lent .1 ∙ o .lent .1, p .lent .2 ∙ o .lent .2);
-  noisy = p .noisy ∙ o .noisy;
-  numerators = p .numerators ∙ o .numerators;
-  long = p .long ∙ o .long;
-  past = p .past ∙ o .past;
 }
 
 pub work-roomy : {K : Type 0} (m n : ℕ) (s s′ : Slices K) → OnlyWork n s s′ → Roomy m s → Roomy m s′

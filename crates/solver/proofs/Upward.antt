@@ -1,7 +1,7 @@
 -- The upward pass, one node at a time.
-use mathlib.Core.Path.{_≡_, refl, sym, _∙_, ap, subst}
+use mathlib.Core.Path.{_≡_, sym, _∙_, ap, subst}
 use mathlib.Core.List.{List}
-use Prim.Native.Nat.{ℕ, zero, suc, _+_, _-_, _*_, _^_, _≤_, _<_}
+use Prim.Native.Nat.{ℕ, suc, _+_, _-_, _*_, _^_, _≤_, _<_}
 use native.Mathlib.Omega.{arith}
 use lib.IntN.{pos}
 use Rattle.std.proofs.shelf.Bits.{mul-le}
@@ -10,12 +10,11 @@ use Rattle.algebra.specs.Sum.{sumRows}
 use Rattle.algebra.proofs.Rows.{rows-ext}
 use Rattle.shapes.specs.Tree.{size, child, Level}
 use Rattle.shapes.proofs.Heights.{level-height, level-node, child-level}
-use Rattle.inference.specs.Table.{Table, overChildren}
+use Rattle.inference.specs.Table.{Table}
 use Rattle.inference.specs.Formulas.{Z-at, Z}
 use Rattle.inference.specs.Bounds.{Bounded}
 use Rattle.inference.proofs.Steps.{Z-parent}
 use Rattle.solver.specs.Steps.{Lifts}
-use Rattle.solver.specs.Passes.{Raised}
 
 -- a node's level, between two sizes
 pub on-level : (b L k v : ℕ) → 1 ≤ k → k ≤ L → size b (L - k) ≤ v → v < size b (suc (L - k)) → Level b L k v

@@ -3,7 +3,7 @@ use mathlib.Core.Path.{_≡_}
 use mathlib.Core.List.{List}
 use Prim.Native.Nat.{ℕ, _+_, _≤_, _<_}
 use lib.IntN.{pos}
-use lib.ListN.{length, drop}
+use lib.ListN.{drop}
 use Rattle.algebra.specs.Row.{Row, Within, rowAt, _⊕_, _⊖_, _⊙_}
 
 -- Nothing on the way to a parent's Z is beyond M.

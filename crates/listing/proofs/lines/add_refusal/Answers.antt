@@ -1,5 +1,5 @@
 use borrow.Author.Needs.{needs}
-use Prim.Native.Nat.{_<_, _^_, _≤_}
+use Prim.Native.Nat.{_<_, _^_}
 use Rattle.std.specs.Of.Vec.{vec-items}
 use Rattle.listing_lines.specs.Lines.{refusalLine}
 use Rattle.listing_lines.specs.Buffer.{lineRules}

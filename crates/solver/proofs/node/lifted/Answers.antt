@@ -1,4 +1,4 @@
-use mathlib.Core.Path.{_≡_, sym, _∙_, ap, subst}
+use mathlib.Core.Path.{sym, subst}
 use Rattle.algebra.specs.Row.{Row, Within, _⊕_}
 use Rattle.cells.specs.Calls.{carryLimit}
 use Rattle.solver.proofs.node.lifted.Needs as need

@@ -1,6 +1,5 @@
-use mathlib.Core.Path.{_≡_, sym, _∙_, ap, subst}
-use lib.IntN.{pos}
-use Rattle.algebra.specs.Row.{Row, Within, _⊕_, _⊙_}
+use mathlib.Core.Path.{_≡_, sym, subst}
+use Rattle.algebra.specs.Row.{Row, Within, _⊕_}
 use Rattle.cells.specs.Calls.{carryLimit}
 use Rattle.solver.proofs.node.settled.Needs as need
 

@@ -1,11 +1,11 @@
 use mathlib.Core.Path.{_≡_, refl, sym, _∙_, ap, subst}
 use mathlib.Core.List.{List}
-use Prim.Native.Nat.{ℕ, suc, _+_, _-_, _*_, _/_, _^_, _≤_, _<_}
+use Prim.Native.Nat.{ℕ, suc, _+_, _-_, _/_, _≤_, _<_}
 use native.Mathlib.Nat.{div-le-self}
 use native.Mathlib.Numerals.{add-one}
 use native.Mathlib.Omega.{arith}
 use lib.IntN.{pos}
-use lib.ListN.{length, getD}
+use lib.ListN.{getD}
 use Rattle.std.proofs.shelf.Lists.{length-set}
 use Rattle.algebra.specs.Row.{Row, rowAt, _⊕_, _⊙_}
 use Rattle.algebra.proofs.Places.{row-copied}
@@ -13,9 +13,8 @@ use Rattle.cells.specs.Calls.{carryLimit}
 use Rattle.shapes.specs.Tree.{size, Level}
 use Rattle.shapes.proofs.Heights.{level-node}
 use Rattle.shapes.proofs.Sizes.{size-some, size-le}
-use Rattle.inference.specs.Formulas.{Z, C, X}
 use Rattle.solver.specs.Steps.{Settles}
-use Rattle.solver.specs.Passes.{OnlyNumerators, Finished}
+use Rattle.solver.specs.Passes.{Finished}
 use Rattle.solver.proofs.Only.{numerators-none, numerators-step, numerators-wider, roomy-less}
 use Rattle.solver.proofs.Upward.{level-at}
 use Rattle.solver.proofs.Downward.{Mixed, mixed-none, mixed-more, finished-more, settled-is, settles}

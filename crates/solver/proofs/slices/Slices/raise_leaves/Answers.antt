@@ -1,11 +1,10 @@
-use mathlib.Core.Path.{_≡_, refl, sym, _∙_, ap, subst}
+use mathlib.Core.Path.{refl, sym, _∙_, ap, subst}
 use mathlib.Core.List.{List}
 use Prim.Native.Nat.{ℕ, _-_, _≤_, _<_}
 use native.Mathlib.Omega.{arith}
 use lib.ListN.{length}
 use Rattle.algebra.specs.Row.{rowAt}
 use Rattle.algebra.proofs.Places.{row-copied}
-use Rattle.shapes.specs.Tree.{size}
 use Rattle.solver.specs.Passes.{OnlyWork}
 use Rattle.solver.proofs.Only.{work-none, work-step}
 use Rattle.solver.proofs.Upward.{Z-level, leaf-level}

@@ -1,14 +1,12 @@
-use mathlib.Core.Path.{_≡_, refl, sym, _∙_, ap, subst}
+use mathlib.Core.Path.{_≡_, refl, _∙_, ap}
 use mathlib.Core.List.{List}
-use Prim.Native.Nat.{ℕ, suc, _+_, _-_, _*_, _^_, _≤_, _<_}
-use native.Mathlib.Numerals.{add-one}
+use Prim.Native.Nat.{ℕ, suc, _-_, _≤_, _<_}
 use native.Mathlib.Omega.{arith}
 use lib.IntN.{pos}
 use lib.ListN.{length, getD}
-use Rattle.algebra.specs.Row.{Row, rowAt, _⊕_, _⊙_}
-use Rattle.algebra.specs.Sum.{sumRows}
+use Rattle.algebra.specs.Row.{rowAt, _⊕_, _⊙_}
 use Rattle.algebra.proofs.Places.{row-copied}
-use Rattle.shapes.specs.Tree.{size, Level}
+use Rattle.shapes.specs.Tree.{size}
 use Rattle.shapes.proofs.Heights.{level-node}
 use Rattle.shapes.proofs.Sizes.{size-le}
 use Rattle.std.proofs.shelf.Lists.{length-set}
@@ -18,7 +16,7 @@ use Rattle.solver.proofs.Upward.{level-here, kids-inside, kids-within, lifted-
 use Rattle.solver.proofs.Writes.{written}
 use Rattle.solver.proofs.slices.Slices.raise_level.Given as given
 use Rattle.solver.proofs.slices.Slices.raise_level.Needs as need
-use Rattle.solver.proofs.slices.Slices.raise_level.Needs.{After-gather-kids, After-index-self-v}
+use Rattle.solver.proofs.slices.Slices.raise_level.Needs.{After-index-self-v}
 
 pub loop-v-holds : need.loop-v-holds
 loop-v-holds g c =
