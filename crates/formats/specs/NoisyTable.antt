@@ -53,16 +53,16 @@ unlike i [] bytes = None
 unlike i (m ∷ ms) [] = Some i
 unlike i (m ∷ ms) (x ∷ xs) = cond (eqb x m) (unlike (suc i) ms xs) (Some i)
 
-abbrev pub wrongMark : List ℕ → Option ℕ
-wrongMark table = unlike 0 mark (bytesAt table 0 3)
+-- Whether bytes begin with a format's mark, and then with version 1.
+abbrev pub markRules : List ℕ → List ℕ → List Rule
+markRules expected bytes =
+    ruleAt WrongMark (unlike 0 expected (bytesAt bytes 0 3))
+    ∷ rule (not (eqb (unsigned (bytesAt bytes 3 2)) 1)) WrongVersion 3
+    ∷ []
 
 -- Whether these bytes are a table at all.
 abbrev pub formRules : List ℕ → List Rule
-formRules table =
-    rule (ltb (length table) 8) TableTooShort (length table)
-    ∷ ruleAt WrongMark (wrongMark table)
-    ∷ rule (not (eqb (unsigned (bytesAt table 3 2)) 1)) WrongVersion 3
-    ∷ []
+formRules table = rule (ltb (length table) 8) TableTooShort (length table) ∷ markRules mark table
 
 -- Whether the kind that a header names is the one that is asked for.
 abbrev pub kindRules : ℕ → ℕ → List Rule

@@ -2,7 +2,7 @@
 ghost use mathlib.Core.Path.{_≡_};
 ghost use Rattle.denial.specs.Rules.{Answers};
 ghost use Rattle.shapes.specs.Laid.{shapeRules};
-ghost use Rattle.formats.specs.NoisyTable.{mark, unlike, HeaderOf, formRules, kindRules};
+ghost use Rattle.formats.specs.NoisyTable.{unlike, markRules, HeaderOf, formRules, kindRules};
 use cells::Kind;
 use denial::Denial;
 use denial::Reason;
@@ -10,7 +10,8 @@ use shapes::Shape;
 
 const MARK: &[u8; 3] = b"HCT";
 
-const VERSION: u16 = 1;
+// The version of every format.
+pub(crate) const VERSION: u16 = 1;
 
 // What a header says, and the components that stand after it.
 #[derive(Clone, Copy)]
@@ -21,16 +22,36 @@ pub struct Header<'a> {
     pub components: &'a [u8],
 }
 
-// The first place at which three bytes are not the mark.
-fn wrong_mark(found: [u8; 3]) -> Option<usize>
+// The first place at which three bytes are not a mark.
+fn wrong_mark(mark: [u8; 3], found: [u8; 3]) -> Option<usize>
     ensures { λ r. ⌜ r ≡ unlike 0 mark found ⌝ }
 {
     for (i, byte) in found.iter().enumerate() {
-        if *byte != MARK[i] {
+        if *byte != mark[i] {
             return Some(i);
         }
     }
     None
+}
+
+// Whether a format begins with its mark and the version.
+pub(crate) fn check_mark(mark: [u8; 3], start: [u8; 5]) -> Result<(), Denial>
+    ensures { λ r. ⌜ Answers (markRules mark start) (λ _. Unit {0}) r ⌝ }
+{
+    let [m0, m1, m2, v0, v1] = start;
+    if let Some(at) = wrong_mark(mark, [m0, m1, m2]) {
+        return Err(Denial {
+            reason: Reason::WrongMark,
+            place: at as u64,
+        });
+    }
+    if u16::from_be_bytes([v0, v1]) != VERSION {
+        return Err(Denial {
+            reason: Reason::WrongVersion,
+            place: 3,
+        });
+    }
+    Ok(())
 }
 
 // Takes the header of a table apart.
@@ -43,18 +64,7 @@ pub fn read_header(table: &[u8]) -> Result<Header<'_>, Denial>
             place: table.len() as u64,
         });
     };
-    if let Some(at) = wrong_mark([*m0, *m1, *m2]) {
-        return Err(Denial {
-            reason: Reason::WrongMark,
-            place: at as u64,
-        });
-    }
-    if u16::from_be_bytes([*v0, *v1]) != VERSION {
-        return Err(Denial {
-            reason: Reason::WrongVersion,
-            place: 3,
-        });
-    }
+    check_mark(*MARK, [*m0, *m1, *m2, *v0, *v1])?;
     Ok(Header {
         kind: *kind,
         fanout: *fanout,
