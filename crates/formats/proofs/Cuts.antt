@@ -97,7 +97,7 @@ part-reads w bytes v at part p =
 shape-passed : (b L : ℕ) → Shapely b L → isSome (first (shapeRules b L)) ≡ false
 shape-passed b L (p, q, r, s, n) =
     ap (λ x. isSome (first (rule (not x) FanoutRange b ∷ rule (not (leb 1 L && leb L 10)) HeightRange L ∷ rule (ltb 1023 (size b L)) TooManyNodes 0 ∷ [])))
-        (and-from (leb 2 b) (leb b 16) (le-leb 2 b p) (le-leb b 16 q))
+    (and-from (leb 2 b) (leb b 16) (le-leb 2 b p) (le-leb b 16 q))
     ∙ ap (λ x. isSome (first (rule (not x) HeightRange L ∷ rule (ltb 1023 (size b L)) TooManyNodes 0 ∷ []))) (and-from (leb 1 L) (leb L 10) (le-leb 1 L r) (le-leb L 10 s))
     ∙ ap (λ x. isSome (first (rule x TooManyNodes 0 ∷ []))) (le-ltb 1023 (size b L) n)
 
@@ -119,8 +119,7 @@ cuts-back k w b L rows laid cells v h =
     let kinds : first (kindRules k k) ≡ None = ap (λ x. first (rule (not x) WrongKind 5 ∷ [])) (eq-eqb k k refl) in
     let passed = at-content k w bytes k b L D (record { kind = refl; fanout = refl; height = refl; denominator = sym (said .denominator) })
     header kinds None (content-passed w b L D (length bytes) laid refl (said .whole)) in
-    let node : first (rule (leb (size b L) v) NoSuchNode v ∷ []) ≡ None = ap (λ x. first (rule x NoSuchNode v ∷ [])) (lt-leb (size b L) v h) in
-    (
+    let node : first (rule (leb (size b L) v) NoSuchNode v ∷ []) ≡ None = ap (λ x. first (rule x NoSuchNode v ∷ [])) (lt-leb (size b L) v h) in (
       first-append (publishedRules k w bytes) (rule (leb (size b L) v) NoSuchNode v ∷ []) ∙ (λ i. orOther (passed i) (node i)),
       λ at part p. part-reads w bytes v at part p ∙ said .numerators v h,
     )

@@ -50,12 +50,12 @@ header-done ms ds out now l e =
 -- the bytes of a number, as the library gives them
 pub eight-are : (n : ℕ)
     → (n / 72057594037927936 % 256) ∷ (n / 281474976710656 % 256) ∷ (n / 1099511627776 % 256) ∷ (n / 4294967296 % 256)
-      ∷ (n / 16777216 % 256) ∷ (n / 65536 % 256) ∷ (n / 256 % 256) ∷ (n % 256) ∷ []
-      ≡ bytesOf 8 n
+    ∷ (n / 16777216 % 256) ∷ (n / 65536 % 256) ∷ (n / 256 % 256) ∷ (n % 256) ∷ []
+    ≡ bytesOf 8 n
 unfolding bytesOf
 eight-are n =
     ap (λ t. (n / 72057594037927936 % 256) ∷ (n / 281474976710656 % 256) ∷ (n / 1099511627776 % 256) ∷ (n / 4294967296 % 256)
-        ∷ (n / 16777216 % 256) ∷ (n / 65536 % 256) ∷ (n / 256 % 256) ∷ (t % 256) ∷ []) (sym (div-one n))
+    ∷ (n / 16777216 % 256) ∷ (n / 65536 % 256) ∷ (n / 256 % 256) ∷ (t % 256) ∷ []) (sym (div-one n))
 
 -- one more component of a cell
 pub cell-more : (xs : List ℕ) (a : ℕ) (r : Row) (i : ℕ) (x : ℤ) → i < length r → x ≡ part r i → a + 8 * length r ≤ length xs
@@ -63,9 +63,9 @@ pub cell-more : (xs : List ℕ) (a : ℕ) (r : Row) (i : ℕ) (x : ℤ) → i < 
     → take (a + 8 * i) now ++ (eightBytes x ++ drop (a + 8 * i + 8) now) ≡ take a xs ++ (rowBytes (take (i + 1) r) ++ drop (a + 8 * (i + 1)) xs)
 cell-more xs a r i x h e room now p =
     overlay-more xs (rowBytes (take i r)) (eightBytes x) a (8 * i) 8
-        (row-length (take i r) ∙ ap (λ t. 8 * t) (length-take-le i r (omega arith))) (omega arith) now p
+    (row-length (take i r) ∙ ap (λ t. 8 * t) (length-take-le i r (omega arith))) (omega arith) now p
     ∙ ap (λ t. take a xs ++ (t ++ drop (a + 8 * i + 8) xs))
-        (joined-more eightBytes [] (take i r) x ∙ ap rowBytes (ap (λ t. take i r ++ t ∷ []) e ∙ sym (take-more r i (pos 0) h)))
+    (joined-more eightBytes [] (take i r) x ∙ ap rowBytes (ap (λ t. take i r ++ t ∷ []) e ∙ sym (take-more r i (pos 0) h)))
     ∙ ap (λ n. take a xs ++ (rowBytes (take (i + 1) r) ++ drop n xs)) (omega arith)
 
 -- every component of a cell is written
@@ -88,7 +88,7 @@ pub rows-written : (xs : List ℕ) (w n v : ℕ) (rows : ℕ → Row) (r : Row) 
     → take (placeOf w v) now ++ (rowBytes r ++ drop (placeOf w v + 8 * w) now) ≡ take 16 xs ++ (tableBytes (v + 1) rows ++ drop (placeOf w (v + 1)) xs)
 rows-written xs w n v rows r h room sized e now p =
     overlay-more xs (tableBytes v rows) (rowBytes r) 16 (8 * (w * v)) (8 * w)
-        (table-length w v rows (λ u l. sized u (omega arith))) (omega (arith, place-room w v n (length xs) h room)) now p
+    (table-length w v rows (λ u l. sized u (omega arith))) (omega (arith, place-room w v n (length xs) h room)) now p
     ∙ ap (λ t. take 16 xs ++ (t ++ drop (placeOf w v + 8 * w) xs)) (ap (λ s. tableBytes v rows ++ rowBytes s) e ∙ sym (table-more v rows))
     ∙ ap (λ m. take 16 xs ++ (tableBytes (v + 1) rows ++ drop m xs)) (sym (place-more w v))
 
@@ -100,6 +100,6 @@ publication-done hs ts out now m l h e =
     ap (λ t. take 16 t ++ (ts ++ drop m t)) e
     ∙ ap (λ t. t ++ (ts ++ drop m (hs ++ drop 16 out))) (take-at hs (drop 16 out) 16 l)
     ∙ ap (λ t. hs ++ (ts ++ t))
-        (ap (λ n. drop n (hs ++ drop 16 out)) (sym k) ∙ sym (drop-drop (m - 16) 16 (hs ++ drop 16 out)) ∙ ap (drop (m - 16)) (drop-at hs (drop 16 out) 16 l)
-        ∙ drop-drop (m - 16) 16 out ∙ ap (λ n. drop n out) k)
+    (ap (λ n. drop n (hs ++ drop 16 out)) (sym k) ∙ sym (drop-drop (m - 16) 16 (hs ++ drop 16 out)) ∙ ap (drop (m - 16)) (drop-at hs (drop 16 out) 16 l)
+    ∙ drop-drop (m - 16) 16 out ∙ ap (λ n. drop n out) k)
     ∙ sym (append-assoc hs ts (drop m out))

@@ -71,10 +71,10 @@ row-in w off bytes r l within e = sym (row-tabulate w (λ i. signedEight (bytesA
     each : (i : ℕ) → i < w → part r i ≡ signedEight (bytesAt bytes (off + 8 * i) 8)
     each i h =
         sym (ap signedEight
-            (sym (bytes-within 8 (8 * i) (8 * w) off bytes (omega arith))
-            ∙ ap (λ t. bytesAt t (8 * i) 8) e
-            ∙ bytes-taken 8 (8 * i) (rowBytes r) (omega (arith, row-length r))
-            ∙ block eightBytes 8 (pos 0) r (λ u k. length-bytesOf 8 (ofZ w64 (part r u))) i (omega arith))
+        (sym (bytes-within 8 (8 * i) (8 * w) off bytes (omega arith))
+        ∙ ap (λ t. bytesAt t (8 * i) 8) e
+        ∙ bytes-taken 8 (8 * i) (rowBytes r) (omega (arith, row-length r))
+        ∙ block eightBytes 8 (pos 0) r (λ u k. length-bytesOf 8 (ofZ w64 (part r u))) i (omega arith))
         ∙ signed-back (part r i) (within i))
 
 pub part-row : (w : ℕ) (r : Row) → length r ≡ w → Within carryLimit r → rowFrom w (rowBytes r) 0 ≡ r
@@ -109,8 +109,8 @@ module _ (k w b L D : ℕ) (rows : ℕ → Row) (cells : OfCells w (size b L) ro
     fanout = refl;
     height = refl;
     denominator =
-      ap unsigned (bytes-taken 8 8 (publication k b L D rows) (omega (arith, publication-length)) ∙ take-at (bytesOf 8 D) body 8 (length-bytesOf 8 D))
-      ∙ unsigned-back D small;
+        ap unsigned (bytes-taken 8 8 (publication k b L D rows) (omega (arith, publication-length)) ∙ take-at (bytesOf 8 D) body 8 (length-bytesOf 8 D))
+        ∙ unsigned-back D small;
     numerators = λ v h. row-in w (placeOf w v) (publication k b L D rows) (rows v) (sized v h) (cells v h .1) (node-bytes v h);
   }
 
@@ -130,5 +130,5 @@ written-reads row k w b L D cells n rest now sized held room small e p =
     let rows = rowAt row cells in
     let of-cells : OfCells w (size b L) rows = λ v h. (row-sized row w sized cells v (omega arith), row-held row carryLimit held cells v) in
     let bytes : publication k b L D rows ≡ take n now
-        = sym (ap (take n) p ∙ take-at (publication k b L D rows) rest n (publication-length k w b L D rows of-cells ∙ sym e)) in
+    = sym (ap (take n) p ∙ take-at (publication k b L D rows) rest n (publication-length k w b L D rows of-cells ∙ sym e)) in
     subst (λ (t : List ℕ). Says t k w b L D rows) bytes (reads-back k w b L D rows small of-cells)

@@ -34,7 +34,26 @@ pub struct Part<'a> {
 fn read_publication(publication: &[u8]) -> Result<Published<'_>, Denial>
     ensures { λ r. ⌜ Answers (headerRules (now (publication .entry))) (λ p. PublicationOf (now (publication .entry)) (p .header .kind) (p .header .fanout) (p .header .height) (p .denominator)) r ⌝ }
 {
-    let [m0, m1, m2, v0, v1, kind, fanout, height, d0, d1, d2, d3, d4, d5, d6, d7, components @ ..] = publication else {
+    let [
+        m0,
+        m1,
+        m2,
+        v0,
+        v1,
+        kind,
+        fanout,
+        height,
+        d0,
+        d1,
+        d2,
+        d3,
+        d4,
+        d5,
+        d6,
+        d7,
+        components @ ..,
+    ] = publication
+    else {
         return Err(Denial {
             reason: Reason::TableTooShort,
             place: publication.len() as u64,
@@ -48,7 +67,10 @@ fn read_publication(publication: &[u8]) -> Result<Published<'_>, Denial>
         components,
     };
     let denominator = u64::from_be_bytes([*d0, *d1, *d2, *d3, *d4, *d5, *d6, *d7]);
-    Ok(Published { header, denominator })
+    Ok(Published {
+        header,
+        denominator,
+    })
 }
 
 impl Published<'_> {

@@ -88,7 +88,12 @@ fn write_cells<K: Kind>(out: &mut [u8], cells: &[K], n: usize)
 }
 
 // Writes a whole publication at the front of a buffer, and answers its length. A buffer that is too short is left as it is.
-pub fn write_publication<K: Kind>(shape: Shape, denominator: u64, numerators: &[K], out: &mut [u8]) -> Result<usize, Denial>
+pub fn write_publication<K: Kind>(
+    shape: Shape,
+    denominator: u64,
+    numerators: &[K],
+    out: &mut [u8],
+) -> Result<usize, Denial>
     ensures answer { λ r. ⌜ Answers (writeRules (length (now (numerators .entry))) (length (now (out .entry))) width (size (shape .fanout) (shape .height))) (λ n. n ≡ publicationLength width (size (shape .fanout) (shape .height))) r ⌝ }
     ensures written { λ r. ⌜ Cases r (λ n. now (out .exit) ≡ publication number (shape .fanout) (shape .height) denominator (rowAt row (now (numerators .entry))) ++ drop n (now (out .entry))) (λ _. now (out .exit) ≡ now (out .entry)) ⌝ }
     ensures reads { λ r. ⌜ Cases r (λ n. Says (take n (now (out .exit))) number width (shape .fanout) (shape .height) denominator (rowAt row (now (numerators .entry)))) (λ _. Unit {0}) ⌝ }

@@ -1,5 +1,7 @@
 // Tables of pairs, of fan-out 2 and height 2.
+use crate::cut;
 use crate::read_table;
+use crate::write_publication;
 use cells::Kind;
 use cells::Pair;
 use cells::PairKind;
@@ -65,4 +67,37 @@ fn refuses_bodies() -> Result<(), Fail> {
     check_eq(refusal(&GOOD[0..31], &mut cells), (26, 32))?;
     check_eq(refusal_with(19, 0x41), (27, 16))?;
     check_eq(refusal_with(23, 0xbf), (27, 20))
+}
+
+// The number and the place of a refusal to cut a node; two zeros where it is cut.
+fn cut_refusal(publication: &[u8], node: u32) -> (u8, u64) {
+    match cut::<Pair>(publication, node) {
+        Ok(_) => (0, 0),
+        Err(denial) => (denial.reason.number(), denial.place),
+    }
+}
+
+#[test]
+fn publishes_and_cuts() -> Result<(), Fail> {
+    let mut cells = [Pair::zero(); 3];
+    let Ok(shape) = read_table(&GOOD, &mut cells) else {
+        return Err(Fail::new("refused"));
+    };
+    let mut out = [7u8; 65];
+    check_eq(
+        write_publication(shape, shape.denominator(), &cells, &mut out).ok(),
+        Some(64),
+    )?;
+    check_eq((out[2], out[15], out[31], out[64]), (b'R', 3, 0xfe, 7))?;
+    let Ok(part) = cut::<Pair>(&out[0..64], 1) else {
+        return Err(Fail::new("refused"));
+    };
+    check_eq(part.offset, 32)?;
+    check_eq(
+        part.bytes,
+        b"\0\0\0\0\0\x0f\x42\x40\xff\xff\xff\xff\xff\xf0\xbd\xc0",
+    )?;
+    check_eq(cut_refusal(&out, 1), (26, 64))?;
+    check_eq(cut_refusal(&out[0..64], 3), (31, 3))?;
+    check_eq(cut_refusal(&out[0..15], 0), (21, 15))
 }

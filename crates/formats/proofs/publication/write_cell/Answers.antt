@@ -20,10 +20,10 @@ loop-i-again g c =
     let from = c .args .at + 8 * c .loop-i .i in
     c .write-eight .ensures
     ∙ ap (λ z. take from (c .loop-i .out) ++ (z ++ drop (from + 8) (c .loop-i .out)))
-        (c .to-be-bytes-bytes .ensures ∙ eight-are _ ∙ ap eightBytes (toZ-ofZ w64 (c .component .result) fits))
+    (c .to-be-bytes-bytes .ensures ∙ eight-are _ ∙ ap eightBytes (toZ-ofZ w64 (c .component .result) fits))
     ∙ cell-more (c .args .out .now) (c .args .at) (g .K·Kind .row (c .args .cell)) (c .loop-i .i) (c .component .result)
-        (omega (arith, g .K·Kind·met .sized (c .args .cell))) (c .component .ensures) (omega (arith, g .K·Kind·met .sized (c .args .cell), c .pre))
-        (c .loop-i .out) (c .loop-i .inv)
+    (omega (arith, g .K·Kind·met .sized (c .args .cell))) (c .component .ensures) (omega (arith, g .K·Kind·met .sized (c .args .cell), c .pre))
+    (c .loop-i .out) (c .loop-i .inv)
 
 pub returns : need.returns
 returns g c =

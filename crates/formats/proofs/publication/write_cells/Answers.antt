@@ -32,8 +32,8 @@ loop-v-again g c =
     c .write-cell .ensures
     ∙ ap (λ (n : ℕ). take (placeOf n v) (c .loop-v .out) ++ (rowBytes (g .K·Kind .row (c .index-cells-v .result)) ++ drop (placeOf n v + 8 * w) (c .loop-v .out))) (c .width-width .ensures)
     ∙ rows-written (c .args .out .now) w (c .args .n) v (rowAt (g .K·Kind .row) (c .args .cells .now)) (g .K·Kind .row (c .index-cells-v .result))
-        (c .loop-v-test .taken) (c .pre .room) (λ u h. row-sized (g .K·Kind .row) w (g .K·Kind·met .sized) (c .args .cells .now) u (omega arith))
-        (row-read (g .K·Kind .row) (c .args .cells .now) v (c .index-cells-v .result) (omega arith) (c .index-cells-v .is)) (c .loop-v .out) (c .loop-v .inv)
+    (c .loop-v-test .taken) (c .pre .room) (λ u h. row-sized (g .K·Kind .row) w (g .K·Kind·met .sized) (c .args .cells .now) u (omega arith))
+    (row-read (g .K·Kind .row) (c .args .cells .now) v (c .index-cells-v .result) (omega arith) (c .index-cells-v .is)) (c .loop-v .out) (c .loop-v .inv)
 
 pub returns : need.returns
 returns g c =

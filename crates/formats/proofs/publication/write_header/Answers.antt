@@ -13,7 +13,7 @@ returns g c =
     let L = c .args .shape .height in
     let out = c .args .out .now in
     let half : c .write-eight .last .out ≡ publicationFront (g .K·Kind .number) b L ++ drop 8 out
-        = c .write-eight .ensures ∙ ap (λ t. t ++ drop 8 out) (c .front .ensures ∙ ap (λ n. publicationFront n b L) (c .number .ensures)) in
+    = c .write-eight .ensures ∙ ap (λ t. t ++ drop 8 out) (c .front .ensures ∙ ap (λ n. publicationFront n b L) (c .number .ensures)) in
     c .write-eight-2 .ensures
     ∙ ap (λ (t : List ℕ). take 8 (c .write-eight .last .out) ++ (t ++ drop 16 (c .write-eight .last .out))) (c .to-be-bytes .ensures ∙ eight-are (c .args .denominator))
     ∙ header-done (publicationFront (g .K·Kind .number) b L) (bytesOf 8 (c .args .denominator)) out (c .write-eight .last .out) refl half
