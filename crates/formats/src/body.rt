@@ -84,7 +84,7 @@ fn with_component<K: Kind>(cell: K, i: usize, x: i32) -> K
 }
 
 // The cell of node v.
-pub fn cell_at<K: Kind>(components: &[u8], v: usize) -> K
+pub(crate) fn cell_at<K: Kind>(components: &[u8], v: usize) -> K
     requires { ⌜ 4 * (width * v + width) ≤ length (now components) ⌝ }
     ensures { λ r. ⌜ row r ≡ bodyRow width (now (components .entry)) v ⌝ }
 {
@@ -97,7 +97,7 @@ pub fn cell_at<K: Kind>(components: &[u8], v: usize) -> K
 }
 
 // Fills the first n cells of a slice.
-pub fn fill_cells<K: Kind>(components: &[u8], noisy: &mut [K], n: usize)
+pub(crate) fn fill_cells<K: Kind>(components: &[u8], noisy: &mut [K], n: usize)
     requires room { ⌜ n ≤ length (now noisy) ⌝ }
     requires whole { ⌜ 4 * (width * n) ≤ length (now components) ⌝ }
     ensures rows { λ _. ⌜ ((v : ℕ) → v < n → rowAt row (now (noisy .exit)) v ≡ bodyRow width (now (components .entry)) v) ⌝ }

@@ -5,16 +5,12 @@ mod header;
 mod publication;
 mod read;
 
-pub use body::cell_at;
 pub use body::check_body;
-pub use body::fill_cells;
 pub use cutting::Part;
 pub use cutting::cut;
 pub use header::Header;
 pub use header::read_header;
 pub use publication::publication_length;
-pub use publication::write_cell;
-pub use publication::write_header;
 pub use publication::write_publication;
 pub use read::read_table;
 

@@ -48,7 +48,7 @@ fn front(kind: u8, shape: Shape) -> [u8; 8]
 }
 
 // Writes the header at the front of a buffer.
-pub fn write_header<K: Kind>(out: &mut [u8], shape: Shape, denominator: u64)
+pub(crate) fn write_header<K: Kind>(out: &mut [u8], shape: Shape, denominator: u64)
     requires { ⌜ 16 ≤ length (now out) ⌝ }
     ensures { λ _. ⌜ now (out .exit) ≡ publicationHeader number (shape .fanout) (shape .height) denominator ++ drop 16 (now (out .entry)) ⌝ }
 {
@@ -65,7 +65,7 @@ fn component<K: Kind>(cell: K, i: usize) -> i64
 }
 
 // Writes the components of one cell at a place of a buffer.
-pub fn write_cell<K: Kind>(out: &mut [u8], at: usize, cell: K)
+pub(crate) fn write_cell<K: Kind>(out: &mut [u8], at: usize, cell: K)
     requires { ⌜ at + 8 * width ≤ length (now out) ⌝ }
     ensures { λ _. ⌜ now (out .exit) ≡ take at (now (out .entry)) ++ (rowBytes (row cell) ++ drop (at + 8 * width) (now (out .entry))) ⌝ }
 {
