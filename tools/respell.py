@@ -30,7 +30,7 @@ WHOLE = {
     "Z-at": "Z_at",
     "C-at": "C_at",
     "Tree-nearest": "TreeNearest",
-    "Two-pass": "TwoPass",
+    "Two-pass": "TwoPassStands",
     "adds-up": "adds_up",
     "three-nodes": "three_nodes",
     "three-levels": "three_levels",

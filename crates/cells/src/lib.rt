@@ -1,4 +1,6 @@
 // Cells: a row of whole numbers that stands at one node, in several kinds behind one set of calls.
+#![tactic(auto)]
+
 mod admission;
 mod four;
 mod kind;

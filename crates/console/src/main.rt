@@ -1,4 +1,6 @@
 // The program: a script of calls on a tree sheet on standard input, the outcome of each on standard output.
+#![tactic(auto)]
+
 mod call;
 mod hex;
 mod mistake;

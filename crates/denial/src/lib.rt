@@ -1,4 +1,6 @@
 // Refusals: why a call is denied, with the number that the outside sees, and the place that it concerns.
+#![tactic(auto)]
+
 mod denial;
 mod reason;
 

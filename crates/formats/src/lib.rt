@@ -1,4 +1,6 @@
 // The byte formats: reading a noisy table, writing a tree publication, and cutting one node out of it.
+#![tactic(auto)]
+
 mod body;
 mod cutting;
 mod header;

@@ -11,7 +11,7 @@ use Rattle.shapes.proofs.Heights.{level-height, level-node, child-level, height-
 use Rattle.shapes.proofs.Sizes.{size-next, size-positive, size-some}
 use Rattle.inference.specs.Table.{Table, over_children}
 use Rattle.inference.specs.Formulas.{Z_at, C_at, X_at, Z, X}
-use Rattle.inference.specs.TwoPass.{Same, TwoPass, TwoPass}
+use Rattle.inference.specs.TwoPass.{Same, TwoPass, TwoPassStands}
 use Rattle.inference.proofs.Agree.{Z-node-agree, X-agree, clip, clip-in, clip-sized}
 use Rattle.inference.proofs.Parts.{Parts, parts}
 use Rattle.inference.proofs.Steps.{Z-parent}
@@ -170,7 +170,7 @@ module _ (w b L D : ℕ) (t : Table) (hb : 1 ≤ b) (sized : (v : ℕ) → lengt
   recurrences one = record { leaf = at_leaf; up = at_parent; root = at-root one; down = at-children }
 
 -- the rows past the last node do not matter
-pub two-pass : TwoPass
+pub two-pass : TwoPassStands
 two-pass w b L D t hb one multiple sized =
     let n = size b L in
     let t' : Table = clip w n t in

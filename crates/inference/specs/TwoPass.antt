@@ -23,5 +23,5 @@ pub record TwoPass (w b L D : ℕ) (t : Table) : Type 0 where
       → Same (X w b L D t (child b u j)) D
       (pos (b * D) ⊙ Z w b L t (child b u j) ⊕ (pos (size b m) ⊙ X w b L D t u ⊖ pos D ⊙ over_children w b (Z w b L t) u)) (b * D * size b m)
 
-abbrev pub TwoPass : Type 0
-TwoPass = (w b L D : ℕ) (t : Table) → 1 ≤ b → 1 ≤ L → Multiple b L D → Sized w b L t → TwoPass w b L D t
+abbrev pub TwoPassStands : Type 0
+TwoPassStands = (w b L D : ℕ) (t : Table) → 1 ≤ b → 1 ≤ L → Multiple b L D → Sized w b L t → TwoPass w b L D t

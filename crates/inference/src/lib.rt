@@ -1,7 +1,9 @@
 // The nearest table on a tree that adds up: the formulas, and what is proved of them. Each theorem stands on a function's contract.
+#![tactic(auto)]
+
 ghost use Rattle.inference.specs.Bounds.{Magnitudes};
 ghost use Rattle.inference.specs.Nearest.{TreeNearest};
-ghost use Rattle.inference.specs.TwoPass.{TwoPass};
+ghost use Rattle.inference.specs.TwoPass.{TwoPassStands};
 ghost use Rattle.inference.specs.Worked.{Worked};
 
 // The table of the formulas adds up, and every other table that adds up lies strictly farther from the counts.
@@ -11,7 +13,7 @@ pub fn nearest_stands()
 
 // The formulas satisfy the published recurrences.
 pub fn two_pass_stands()
-    ensures { TwoPass }
+    ensures { TwoPassStands }
 {}
 
 // With counts within a limit, no number on the way is larger than 65 times the denominator times that limit.

@@ -1,4 +1,6 @@
 // The program: a noisy table on standard input, its listing on standard output.
+#![tactic(auto)]
+
 mod halt;
 mod lines;
 mod text;

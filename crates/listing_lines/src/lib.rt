@@ -1,4 +1,6 @@
 // The lines of a listing, and the nearest whole number that they print.
+#![tactic(auto)]
+
 mod line;
 mod lines;
 mod node;

@@ -1,4 +1,6 @@
 // The solver: the upward and the downward pass over slices of cells, for every kind.
+#![tactic(auto)]
+
 mod arith;
 mod finish;
 mod lower;

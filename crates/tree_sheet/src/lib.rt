@@ -1,4 +1,6 @@
 // The tree sheet: the calls of a table of counts over slices that the caller lends.
+#![tactic(auto)]
+
 mod call;
 mod enter;
 mod finish;

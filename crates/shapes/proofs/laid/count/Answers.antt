@@ -4,14 +4,14 @@ use Rattle.shapes.specs.Tree.{size}
 use Rattle.shapes.proofs.Sizes.{size-next, size-most}
 use Rattle.shapes.proofs.laid.count.Goals as goal
 
-pub overflow-mul-nodes : goal.overflow-mul-nodes
-overflow-mul-nodes c =
+pub overflow_mul-nodes : goal.overflow_mul-nodes
+overflow_mul-nodes c =
     let few = size-most c.args.fanout c.loop-i.i c.requires.0 (omega (arith, c.requires.1)) in
     let m = mul-le c.args.fanout c.loop-i.nodes 16 73300775185 c.requires.0 (omega (arith, few, c.loop-i.invariant)) in
     search (rules, m)
 
-pub overflow-add-nodes : goal.overflow-add-nodes
-overflow-add-nodes c =
+pub overflow_add-nodes : goal.overflow_add-nodes
+overflow_add-nodes c =
     let few = size-most c.args.fanout c.loop-i.i c.requires.0 (omega (arith, c.requires.1)) in
     let m = mul-le c.args.fanout c.loop-i.nodes 16 73300775185 c.requires.0 (omega (arith, few, c.loop-i.invariant)) in
     search (rules, m)

@@ -14,5 +14,5 @@ loop-i-init g c =
     let ls = law.sized c.args.other in
     (sofar-none (r ⊖ s) r, builds row _ (r ⊖ s) law.sized law.held (zip_length ◌-ℤ◌ _ r s lr ls), part-sub _ r s lr ls)
 
-pub returns-in-err-answer : goal.returns-in-err-answer
-returns-in-err-answer g c = search rules
+pub returns-in_err-answer : goal.returns-in_err-answer
+returns-in_err-answer g c = search rules

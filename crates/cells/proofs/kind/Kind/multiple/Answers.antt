@@ -13,5 +13,5 @@ loop-i-init g c =
     let wide = scale-length by r ∙ law.sized c.args.self in
     (sofar-none (by ⊙ r) r, builds row _ (by ⊙ r) law.sized law.held wide, part-scale by r)
 
-pub returns-in-err-answer : goal.returns-in-err-answer
-returns-in-err-answer g c = search rules
+pub returns-in_err-answer : goal.returns-in_err-answer
+returns-in_err-answer g c = search rules

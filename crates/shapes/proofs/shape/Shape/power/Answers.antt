@@ -7,8 +7,8 @@ use Rattle.shapes.proofs.shape.Shape.power.Goals as goal
 pub loop-i-init : goal.loop-i-init
 loop-i-init c = sym (pow-zero c.args.self.fanout)
 
-pub overflow-mul-nodes : goal.overflow-mul-nodes
-overflow-mul-nodes c =
+pub overflow_mul-nodes : goal.overflow_mul-nodes
+overflow_mul-nodes c =
     let s = c.args.self in
     let few = power-few s.fanout c.loop-i.i s.height s.shapely (omega (arith, c.requires)) in
     let m = mul-le c.loop-i.nodes s.fanout 1023 16 (omega (arith, few, c.loop-i.invariant)) s.shapely.1 in
