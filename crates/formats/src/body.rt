@@ -51,7 +51,7 @@ fn first_beyond(components: &[u8], count: usize, limit: u32) -> Option<usize>
 
 // Whether the components are those of a table of that shape, and within its entry limit.
 pub fn check_body<K: Kind>(components: &[u8], shape: Shape) -> Result<(), Denial>
-    ensures { Answers (body_rules (entry_limit shape.fanout shape.height) width (size shape.fanout shape.height) components.now) (λ _. Unit {0}) result }
+    ensures { Answers (body_rules (entry_limit shape.fanout shape.height) K.width (size shape.fanout shape.height) components.now) (λ _. Unit {0}) result }
 {
     let count = K::width() * shape.nodes();
     let bytes = COMPONENT_BYTES * count;
@@ -72,16 +72,16 @@ pub fn check_body<K: Kind>(components: &[u8], shape: Shape) -> Result<(), Denial
 
 // A cell with one of its components replaced; four bytes hold nothing over the carry limit.
 fn with_component<K: Kind>(cell: K, i: usize, x: i32) -> K
-    requires { i < width }
-    ensures { row result ≡ slice_set (row cell) i x }
+    requires { i < K.width }
+    ensures { K.row result ≡ slice_set (K.row cell) i x }
 {
     cell.set_component(i, i64::from(x)).unwrap()
 }
 
 // The cell of node v.
 pub(crate) fn cell_at<K: Kind>(components: &[u8], v: usize) -> K
-    requires { 4 * (width * v + width) ≤ length components.now }
-    ensures { row result ≡ body_row width components.now v }
+    requires { 4 * (K.width * v + K.width) ≤ length components.now }
+    ensures { K.row result ≡ body_row K.width components.now v }
 {
     let mut cell = K::zero();
     let width = K::width();
@@ -94,8 +94,8 @@ pub(crate) fn cell_at<K: Kind>(components: &[u8], v: usize) -> K
 // Fills the first n cells of a slice.
 pub(crate) fn fill_cells<K: Kind>(components: &[u8], noisy: &mut [K], n: usize)
     requires room { n ≤ length noisy.old }
-    requires whole { 4 * (width * n) ≤ length components.now }
-    ensures rows { (v : ℕ) → v < n → row_at row noisy.new v ≡ body_row width components.now v }
+    requires whole { 4 * (K.width * n) ≤ length components.now }
+    ensures rows { (v : ℕ) → v < n → row_at K.row noisy.new v ≡ body_row K.width components.now v }
     ensures rest { drop n noisy.new ≡ drop n noisy.old }
     ensures same_length { length noisy.new ≡ length noisy.old }
 {

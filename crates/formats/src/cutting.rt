@@ -70,7 +70,7 @@ fn read_publication(publication: &[u8]) -> Result<Published<'_>, Denial>
 impl Published<'_> {
     // The shape that the header names, where the denominator and the length are that shape's.
     fn shape<K: Kind>(self, length: usize) -> Result<Shape, Denial>
-        ensures { Answers (content_rules width self.entry.header.fanout self.entry.header.height self.entry.denominator length) (λ s. (s.fanout ≡ self.entry.header.fanout) × (s.height ≡ self.entry.header.height)) result }
+        ensures { Answers (content_rules K.width self.entry.header.fanout self.entry.header.height self.entry.denominator length) (λ s. (s.fanout ≡ self.entry.header.fanout) × (s.height ≡ self.entry.header.height)) result }
     {
         let Ok(shape) = self.header.shape() else {
             return Err(Denial {
@@ -97,7 +97,7 @@ impl Published<'_> {
 
 // Whether the bytes are a publication of the kind K, and of which shape.
 fn check_publication<K: Kind>(publication: &[u8]) -> Result<Shape, Denial>
-    ensures { Answers (published_rules number width publication.now) (λ s. (s.fanout ≡ fanout_in publication.now) × (s.height ≡ height_in publication.now)) result }
+    ensures { Answers (published_rules K.number K.width publication.now) (λ s. (s.fanout ≡ fanout_in publication.now) × (s.height ≡ height_in publication.now)) result }
 {
     let published = read_publication(publication)?;
     published.header.check_kind::<K>()?;
@@ -106,8 +106,8 @@ fn check_publication<K: Kind>(publication: &[u8]) -> Result<Shape, Denial>
 
 // The numerators of one node.
 pub fn cut<K: Kind>(publication: &[u8], node: u32) -> Result<Part<'_>, Denial>
-    ensures answer { Answers (cut_rules number width publication.now node) (λ p. NodePart width publication.now node p.offset p.bytes.now) result }
-    ensures reads { IfOk result (λ p. row_from width p.bytes.now 0 ≡ published_row width publication.now node) }
+    ensures answer { Answers (cut_rules K.number K.width publication.now node) (λ p. NodePart K.width publication.now node p.offset p.bytes.now) result }
+    ensures reads { IfOk result (λ p. row_from K.width p.bytes.now 0 ≡ published_row K.width publication.now node) }
 {
     let shape = check_publication::<K>(publication)?;
     let node = node as usize;

@@ -76,7 +76,7 @@ pub fn read_header(table: &[u8]) -> Result<Header<'_>, Denial>
 impl Header<'_> {
     // Whether the table is of the kind K.
     pub fn check_kind<K: Kind>(self) -> Result<(), Denial>
-        ensures { Answers (kind_rules number self.entry.kind) (λ _. Unit {0}) result }
+        ensures { Answers (kind_rules K.number self.entry.kind) (λ _. Unit {0}) result }
     {
         if self.kind != K::number() {
             return Err(Denial {

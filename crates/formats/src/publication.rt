@@ -18,7 +18,7 @@ pub(crate) const COMPONENT_BYTES: usize = 8;
 
 // How many bytes a publication has. Every publication is read back as it was written, and so is each node that is cut out.
 pub fn publication_length<K: Kind>(shape: Shape) -> usize
-    ensures value { result ≡ publication_length width (size shape.fanout shape.height) }
+    ensures value { result ≡ publication_length K.width (size shape.fanout shape.height) }
     ensures law { ReadsBack }
     ensures cuts { CutsBack }
 {
@@ -46,7 +46,7 @@ fn front(kind: u8, shape: Shape) -> [u8; 8]
 // Writes the header at the front of a buffer.
 pub(crate) fn write_header<K: Kind>(out: &mut [u8], shape: Shape, denominator: u64)
     requires { 16 ≤ length out.old }
-    ensures { out.new ≡ publication_header number shape.fanout shape.height denominator ++ drop 16 out.old }
+    ensures { out.new ≡ publication_header K.number shape.fanout shape.height denominator ++ drop 16 out.old }
 {
     write_eight(out, 0, front(K::number(), shape));
     write_eight(out, 8, denominator.to_be_bytes());
@@ -54,16 +54,16 @@ pub(crate) fn write_header<K: Kind>(out: &mut [u8], shape: Shape, denominator: u
 
 // A component that the cell has.
 fn component<K: Kind>(cell: K, i: usize) -> i64
-    requires { i < width }
-    ensures { result ≡ part (row cell) i }
+    requires { i < K.width }
+    ensures { result ≡ part (K.row cell) i }
 {
     cell.component(i).unwrap()
 }
 
 // Writes the components of one cell at a place of a buffer.
 pub(crate) fn write_cell<K: Kind>(out: &mut [u8], at: usize, cell: K)
-    requires { at + 8 * width ≤ length out.old }
-    ensures { out.new ≡ take at out.old ++ (row_bytes (row cell) ++ drop (at + 8 * width) out.old) }
+    requires { at + 8 * K.width ≤ length out.old }
+    ensures { out.new ≡ take at out.old ++ (row_bytes (K.row cell) ++ drop (at + 8 * K.width) out.old) }
 {
     for i in 0..K::width() {
         let bytes = component(cell, i).to_be_bytes();
@@ -74,8 +74,8 @@ pub(crate) fn write_cell<K: Kind>(out: &mut [u8], at: usize, cell: K)
 // Writes the first n cells of a slice after the header.
 fn write_cells<K: Kind>(out: &mut [u8], cells: &[K], n: usize)
     requires cells { n ≤ length cells.now }
-    requires room { publication_length width n ≤ length out.old }
-    ensures { out.new ≡ take 16 out.old ++ (table_bytes n (row_at row cells.now) ++ drop (publication_length width n) out.old) }
+    requires room { publication_length K.width n ≤ length out.old }
+    ensures { out.new ≡ take 16 out.old ++ (table_bytes n (row_at K.row cells.now) ++ drop (publication_length K.width n) out.old) }
 {
     let width = K::width();
     for v in 0..n {
@@ -90,9 +90,9 @@ pub fn write_publication<K: Kind>(
     numerators: &[K],
     out: &mut [u8],
 ) -> Result<usize, Denial>
-    ensures answer { Answers (write_rules (length numerators.now) (length out.old) width (size shape.fanout shape.height)) (λ n. n ≡ publication_length width (size shape.fanout shape.height)) result }
-    ensures written { MatchResult result (λ n. out.new ≡ publication number shape.fanout shape.height denominator (row_at row numerators.now) ++ drop n out.old) (λ _. out.new ≡ out.old) }
-    ensures reads { IfOk result (λ n. Says (take n out.new) number width shape.fanout shape.height denominator (row_at row numerators.now)) }
+    ensures answer { Answers (write_rules (length numerators.now) (length out.old) K.width (size shape.fanout shape.height)) (λ n. n ≡ publication_length K.width (size shape.fanout shape.height)) result }
+    ensures written { MatchResult result (λ n. out.new ≡ publication K.number shape.fanout shape.height denominator (row_at K.row numerators.now) ++ drop n out.old) (λ _. out.new ≡ out.old) }
+    ensures reads { IfOk result (λ n. Says (take n out.new) K.number K.width shape.fanout shape.height denominator (row_at K.row numerators.now)) }
 {
     let nodes = shape.nodes();
     if numerators.len() < nodes {

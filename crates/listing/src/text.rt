@@ -16,7 +16,7 @@ const MOST_NODES: usize = 1023;
 
 fn zero_cells<K: Kind>(heap: Global, n: usize) -> Result<Vec<K>, AllocError>
     ensures len { IfOk result (λ v. vec_len v ≡ n) }
-    ensures rows { IfOk result (λ v. map row v.items ≡ replicate n (zeros width)) }
+    ensures rows { IfOk result (λ v. map K.row v.items ≡ replicate n (zeros K.width)) }
 {
     let mut cells = Vec::with_capacity(heap, n)?;
     for i in 0..n {
@@ -27,7 +27,7 @@ fn zero_cells<K: Kind>(heap: Global, n: usize) -> Result<Vec<K>, AllocError>
 
 // The listing of a table of the kind K.
 fn table_text<K: Kind>(heap: Global, table: &[u8]) -> Result<Vec<u8>, Halt>
-    ensures { Tells (read_rules number width most_nodes table.now) (λ t. Listed number width table.now t.items) result }
+    ensures { Tells (read_rules K.number K.width most_nodes table.now) (λ t. Listed K.number K.width table.now t.items) result }
 {
     let mut noisy = zero_cells::<K>(heap, MOST_NODES)?;
     let mut numerators = zero_cells::<K>(heap, MOST_NODES)?;
