@@ -50,7 +50,7 @@ fn two_indices(arguments: &[&str]) -> Result<(u32, u32), Mistake>
 }
 
 fn index_and_cell<K: Kind>(arguments: &[&str]) -> Result<(u32, K), Mistake>
-    ensures { MatchResult result (λ p. Placed K.width (texts arguments.now) p.0 (K.row p.1)) (λ _. (n : ℕ) (x : Row) → Placed K.width (texts arguments.now) n x → ⊥) }
+    ensures { MatchResult result (λ p. Placed K.width (texts arguments.now) p.0 (K.Kind.row p.1)) (λ _. (n : ℕ) (x : Row) → Placed K.width (texts arguments.now) n x → ⊥) }
 {
     if arguments.len() < 1 {
         return Err(Mistake::Arguments);
@@ -71,7 +71,7 @@ fn bytes(heap: Global, arguments: &[&str]) -> Result<Vec<u8>, Mistake>
 }
 
 pub fn read_call<K: Kind>(heap: Global, words: &[&str]) -> Result<Call<K>, Mistake>
-    ensures { MatchResult result (λ call. Spells K.width K.row (texts words.now) call) (λ m. (m ≡ NoMemory) ⊎ ((call : Spelt K) → Spells K.width K.row (texts words.now) call → ⊥)) }
+    ensures { MatchResult result (λ call. Spells K.width K.Kind.row (texts words.now) call) (λ m. (m ≡ NoMemory) ⊎ ((call : Spelt K) → Spells K.width K.Kind.row (texts words.now) call → ⊥)) }
 {
     if words.len() < 1 {
         return Err(Mistake::NoCall);

@@ -18,7 +18,7 @@ fn denial_text(heap: Global, denial: Denial) -> Result<String, AllocError>
 }
 
 fn cell_text<K: Kind>(heap: Global, cell: K, denominator: u64) -> Result<String, AllocError>
-    ensures { IfOk result (λ t. string_bytes t ≡ cell_line (K.row cell) denominator) }
+    ensures { IfOk result (λ t. string_bytes t ≡ cell_line (K.Kind.row cell) denominator) }
 {
     let mut text = String::from_str(heap, "ok")?;
     for i in 0..K::width() {
@@ -39,7 +39,7 @@ fn bytes_text(heap: Global, bytes: &[u8]) -> Result<String, AllocError>
 }
 
 pub fn outcome_text<K: Kind>(heap: Global, outcome: &Outcome<K>) -> Result<String, AllocError>
-    ensures { IfOk result (λ t. string_bytes t ≡ outcome_line K.row outcome.now) }
+    ensures { IfOk result (λ t. string_bytes t ≡ outcome_line K.Kind.row outcome.now) }
 {
     match outcome {
         Outcome::Done => String::from_str(heap, "ok\n"),
@@ -51,7 +51,7 @@ pub fn outcome_text<K: Kind>(heap: Global, outcome: &Outcome<K>) -> Result<Strin
 
 // The lines of all outcomes, in their order.
 pub fn outcomes_text<K: Kind>(heap: Global, outcomes: &[Outcome<K>]) -> Result<String, AllocError>
-    ensures { IfOk result (λ t. string_bytes t ≡ flat_map (outcome_line K.row) outcomes.now) }
+    ensures { IfOk result (λ t. string_bytes t ≡ flat_map (outcome_line K.Kind.row) outcomes.now) }
 {
     let mut text = String::new(heap);
     for outcome in outcomes {

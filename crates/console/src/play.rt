@@ -43,7 +43,7 @@ fn sheet_text<K: Kind>(
     lengths: Lengths,
     calls: &[Call<K>],
 ) -> Result<String, AllocError>
-    ensures { IfOk result (λ t. Played K.row K.number K.width K.product lengths calls.now (string_bytes t)) }
+    ensures { IfOk result (λ t. Played K.Kind.row K.number K.width K.product lengths calls.now (string_bytes t)) }
 {
     let mut noisy = zero_cells::<K>(heap, lengths.noisy)?;
     let mut marks = Vec::from_elem(heap, 0u8, lengths.marks)?;

@@ -37,7 +37,7 @@ fn integer(word: &str) -> Result<i64, Mistake>
 
 // The cell with these components.
 pub fn cell<K: Kind>(words: &[&str]) -> Result<K, Mistake>
-    ensures { MatchResult result (λ c. Components K.width (texts words.now) (K.row c)) (λ _. (x : Row) → Components K.width (texts words.now) x → ⊥) }
+    ensures { MatchResult result (λ c. Components K.width (texts words.now) (K.Kind.row c)) (λ _. (x : Row) → Components K.width (texts words.now) x → ⊥) }
 {
     if words.len() != K::width() {
         return Err(Mistake::Components);

@@ -73,7 +73,7 @@ pub fn check_body<K: Kind>(components: &[u8], shape: Shape) -> Result<(), Denial
 // A cell with one of its components replaced; four bytes hold nothing over the carry limit.
 fn with_component<K: Kind>(cell: K, i: usize, x: i32) -> K
     requires { i < K.width }
-    ensures { K.row result ≡ slice_set (K.row cell) i x }
+    ensures { K.Kind.row result ≡ slice_set (K.Kind.row cell) i x }
 {
     cell.set_component(i, i64::from(x)).unwrap()
 }
@@ -81,7 +81,7 @@ fn with_component<K: Kind>(cell: K, i: usize, x: i32) -> K
 // The cell of node v.
 pub(crate) fn cell_at<K: Kind>(components: &[u8], v: usize) -> K
     requires { 4 * (K.width * v + K.width) ≤ length components.now }
-    ensures { K.row result ≡ body_row K.width components.now v }
+    ensures { K.Kind.row result ≡ body_row K.width components.now v }
 {
     let mut cell = K::zero();
     let width = K::width();
@@ -95,7 +95,7 @@ pub(crate) fn cell_at<K: Kind>(components: &[u8], v: usize) -> K
 pub(crate) fn fill_cells<K: Kind>(components: &[u8], noisy: &mut [K], n: usize)
     requires room { n ≤ length noisy.old }
     requires whole { 4 * (K.width * n) ≤ length components.now }
-    ensures rows { (v : ℕ) → v < n → row_at K.row noisy.new v ≡ body_row K.width components.now v }
+    ensures rows { (v : ℕ) → v < n → row_at K.Kind.row noisy.new v ≡ body_row K.width components.now v }
     ensures rest { drop n noisy.new ≡ drop n noisy.old }
     ensures same_length { length noisy.new ≡ length noisy.old }
 {

@@ -55,7 +55,7 @@ pub(crate) fn write_header<K: Kind>(out: &mut [u8], shape: Shape, denominator: u
 // A component that the cell has.
 fn component<K: Kind>(cell: K, i: usize) -> i64
     requires { i < K.width }
-    ensures { result ≡ part (K.row cell) i }
+    ensures { result ≡ part (K.Kind.row cell) i }
 {
     cell.component(i).unwrap()
 }
@@ -63,7 +63,7 @@ fn component<K: Kind>(cell: K, i: usize) -> i64
 // Writes the components of one cell at a place of a buffer.
 pub(crate) fn write_cell<K: Kind>(out: &mut [u8], at: usize, cell: K)
     requires { at + 8 * K.width ≤ length out.old }
-    ensures { out.new ≡ take at out.old ++ (row_bytes (K.row cell) ++ drop (at + 8 * K.width) out.old) }
+    ensures { out.new ≡ take at out.old ++ (row_bytes (K.Kind.row cell) ++ drop (at + 8 * K.width) out.old) }
 {
     for i in 0..K::width() {
         let bytes = component(cell, i).to_be_bytes();
@@ -75,7 +75,7 @@ pub(crate) fn write_cell<K: Kind>(out: &mut [u8], at: usize, cell: K)
 fn write_cells<K: Kind>(out: &mut [u8], cells: &[K], n: usize)
     requires cells { n ≤ length cells.now }
     requires room { publication_length K.width n ≤ length out.old }
-    ensures { out.new ≡ take 16 out.old ++ (table_bytes n (row_at K.row cells.now) ++ drop (publication_length K.width n) out.old) }
+    ensures { out.new ≡ take 16 out.old ++ (table_bytes n (row_at K.Kind.row cells.now) ++ drop (publication_length K.width n) out.old) }
 {
     let width = K::width();
     for v in 0..n {
@@ -91,8 +91,8 @@ pub fn write_publication<K: Kind>(
     out: &mut [u8],
 ) -> Result<usize, Denial>
     ensures answer { Answers (write_rules (length numerators.now) (length out.old) K.width (size shape.fanout shape.height)) (λ n. n ≡ publication_length K.width (size shape.fanout shape.height)) result }
-    ensures written { MatchResult result (λ n. out.new ≡ publication K.number shape.fanout shape.height denominator (row_at K.row numerators.now) ++ drop n out.old) (λ _. out.new ≡ out.old) }
-    ensures reads { IfOk result (λ n. Says (take n out.new) K.number K.width shape.fanout shape.height denominator (row_at K.row numerators.now)) }
+    ensures written { MatchResult result (λ n. out.new ≡ publication K.number shape.fanout shape.height denominator (row_at K.Kind.row numerators.now) ++ drop n out.old) (λ _. out.new ≡ out.old) }
+    ensures reads { IfOk result (λ n. Says (take n out.new) K.number K.width shape.fanout shape.height denominator (row_at K.Kind.row numerators.now)) }
 {
     let nodes = shape.nodes();
     if numerators.len() < nodes {

@@ -11,7 +11,7 @@ use shapes::Shape;
 
 // Reads a table into the first cells of a slice, and answers its shape. Nothing is written before all is checked.
 pub fn read_table<K: Kind>(table: &[u8], noisy: &mut [K]) -> Result<Shape, Denial>
-    ensures answer { Answers (read_rules K.number K.width (length noisy.old) table.now) (λ s. TableRead K.row K.width table.now s noisy.old noisy.new) result }
+    ensures answer { Answers (read_rules K.number K.width (length noisy.old) table.now) (λ s. TableRead K.Kind.row K.width table.now s noisy.old noisy.new) result }
     ensures kept { OnErr result (noisy.new ≡ noisy.old) }
 {
     let header = read_header(table)?;

@@ -24,7 +24,7 @@ fn add_first(text: &mut Vec<u8>, kind: u8, shape: Shape, d: u64) -> Result<(), A
 
 fn add_node<K: Kind>(text: &mut Vec<u8>, node: u32, cell: K, d: u64) -> Result<(), AllocError>
     requires { 1 ≤ d }
-    ensures { Grows text.old.items (node_line node (K.row cell) d) result text.new.items }
+    ensures { Grows text.old.items (node_line node (K.Kind.row cell) d) result text.new.items }
 {
     let mut line = [0; LONGEST];
     let len = node_line(node, cell, d, &mut line).unwrap();
@@ -41,7 +41,7 @@ fn add_nodes<K: Kind>(
     requires some { 1 ≤ d }
     requires few { n ≤ 1023 }
     requires within { n ≤ length numerators.now }
-    ensures { GrowsBy text.old.items (node_lines (row_at K.row numerators.now) d) n result text.new.items }
+    ensures { GrowsBy text.old.items (node_lines (row_at K.Kind.row numerators.now) d) n result text.new.items }
 {
     for v in 0..n {
         add_node(text, v as u32, numerators[v], d)?;
@@ -58,7 +58,7 @@ pub(crate) fn solved_text<K: Kind>(
 ) -> Result<Vec<u8>, AllocError>
     requires some { 1 ≤ d }
     requires within { size shape.fanout shape.height ≤ length numerators.now }
-    ensures { IfOk result (λ t. t.items ≡ first_line K.number shape.fanout shape.height d ++ node_lines (row_at K.row numerators.now) d (size shape.fanout shape.height)) }
+    ensures { IfOk result (λ t. t.items ≡ first_line K.number shape.fanout shape.height d ++ node_lines (row_at K.Kind.row numerators.now) d (size shape.fanout shape.height)) }
 {
     let mut text = Vec::new(heap);
     add_first(&mut text, K::number(), shape, d)?;

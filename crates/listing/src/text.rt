@@ -16,7 +16,7 @@ const MOST_NODES: usize = 1023;
 
 fn zero_cells<K: Kind>(heap: Global, n: usize) -> Result<Vec<K>, AllocError>
     ensures len { IfOk result (λ v. vec_len v ≡ n) }
-    ensures rows { IfOk result (λ v. map K.row v.items ≡ replicate n (zeros K.width)) }
+    ensures rows { IfOk result (λ v. map K.Kind.row v.items ≡ replicate n (zeros K.width)) }
 {
     let mut cells = Vec::with_capacity(heap, n)?;
     for i in 0..n {

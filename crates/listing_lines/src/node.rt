@@ -15,7 +15,7 @@ use denial::Denial;
 
 fn nearest_component<K: Kind>(cell: K, i: usize, denominator: u64) -> Result<i64, Denial>
     requires { i < K.width }
-    ensures { Answers (nearest_rules denominator) (λ x. x ≡ nearest (part (K.row cell) i) denominator) result }
+    ensures { Answers (nearest_rules denominator) (λ x. x ≡ nearest (part (K.Kind.row cell) i) denominator) result }
 {
     nearest(cell.component(i)?, denominator)
 }
@@ -23,7 +23,7 @@ fn nearest_component<K: Kind>(cell: K, i: usize, denominator: u64) -> Result<i64
 // A row has at most 8 components, so that 8 fields of at most 21 bytes are added.
 fn add_numerators<K: Kind>(line: &mut Line, cell: K) -> Result<(), Denial>
     requires { Room line.old 168 }
-    ensures adds { Answers [] (λ _. Adds line.old (flat_map signed_field (K.row cell)) line.new) result }
+    ensures adds { Answers [] (λ _. Adds line.old (flat_map signed_field (K.Kind.row cell)) line.new) result }
     ensures short { line.new.len ≤ line.old.len + 168 }
 {
     for i in 0..K::width() {
@@ -34,7 +34,7 @@ fn add_numerators<K: Kind>(line: &mut Line, cell: K) -> Result<(), Denial>
 
 fn add_nearest<K: Kind>(line: &mut Line, cell: K, denominator: u64) -> Result<(), Denial>
     requires { Room line.old 168 }
-    ensures adds { Answers (nearest_rules denominator) (λ _. Adds line.old (flat_map (nearest_field denominator) (K.row cell)) line.new) result }
+    ensures adds { Answers (nearest_rules denominator) (λ _. Adds line.old (flat_map (nearest_field denominator) (K.Kind.row cell)) line.new) result }
     ensures short { line.new.len ≤ line.old.len + 168 }
 {
     for i in 0..K::width() {
@@ -50,8 +50,8 @@ pub fn node_line<K: Kind>(
     denominator: u64,
     out: &mut [u8],
 ) -> Result<usize, Denial>
-    ensures answers { Answers (node_rules node (K.row cell) denominator out.old) (λ n. n ≡ length (node_line node (K.row cell) denominator)) result }
-    ensures buffer { out.new ≡ buffered (node_line node (K.row cell) denominator) out.old result }
+    ensures answers { Answers (node_rules node (K.Kind.row cell) denominator out.old) (λ n. n ≡ length (node_line node (K.Kind.row cell) denominator)) result }
+    ensures buffer { out.new ≡ buffered (node_line node (K.Kind.row cell) denominator) out.old result }
 {
     let mut line = Line::new();
     line.number(u64::from(node));

@@ -6,23 +6,23 @@ ghost use Rattle.cells.specs.Calls.{carry_limit};
 use cells::Kind;
 
 pub(crate) fn plus<K: Kind>(a: K, b: K) -> K
-    requires { Within carry_limit (K.row a ⊕ K.row b) }
-    ensures { K.row result ≡ K.row a ⊕ K.row b }
+    requires { Within carry_limit (K.Kind.row a ⊕ K.Kind.row b) }
+    ensures { K.Kind.row result ≡ K.Kind.row a ⊕ K.Kind.row b }
 {
     a.sum(b).unwrap()
 }
 
 pub(crate) fn minus<K: Kind>(a: K, b: K) -> K
-    requires { Within carry_limit (K.row a ⊖ K.row b) }
-    ensures { K.row result ≡ K.row a ⊖ K.row b }
+    requires { Within carry_limit (K.Kind.row a ⊖ K.Kind.row b) }
+    ensures { K.Kind.row result ≡ K.Kind.row a ⊖ K.Kind.row b }
 {
     a.difference(b).unwrap()
 }
 
 pub(crate) fn times<K: Kind>(by: u64, a: K) -> K
     requires small { by < 2 ^ 63 }
-    requires within { Within carry_limit (pos by ⊙ K.row a) }
-    ensures { K.row result ≡ pos by ⊙ K.row a }
+    requires within { Within carry_limit (pos by ⊙ K.Kind.row a) }
+    ensures { K.Kind.row result ≡ pos by ⊙ K.Kind.row a }
 {
     a.multiple(by as i64).unwrap()
 }

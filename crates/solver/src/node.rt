@@ -11,8 +11,8 @@ use cells::Kind;
 // The sum of n adjoining cells, from a place on. The slice stays as it is.
 pub(crate) fn gather<K: Kind>(cells: &mut [K], from: usize, n: usize) -> K
     requires inside { from + n ≤ length cells.old }
-    requires within { (m : ℕ) → m ≤ n → Within carry_limit (sum_rows K.width m (λ j. row_at K.row cells.old (from + j))) }
-    ensures value { K.row result ≡ sum_rows K.width n (λ j. row_at K.row cells.old (from + j)) }
+    requires within { (m : ℕ) → m ≤ n → Within carry_limit (sum_rows K.width m (λ j. row_at K.Kind.row cells.old (from + j))) }
+    ensures value { K.Kind.row result ≡ sum_rows K.width n (λ j. row_at K.Kind.row cells.old (from + j)) }
     ensures same { cells.new ≡ cells.old }
 {
     let mut sum = K::zero();
@@ -25,7 +25,7 @@ pub(crate) fn gather<K: Kind>(cells: &mut [K], from: usize, n: usize) -> K
 // The same cell at n adjoining places.
 pub(crate) fn spread<K: Kind>(cells: &mut [K], from: usize, n: usize, cell: K)
     requires { from + n ≤ length cells.old }
-    ensures { Spread K.row cells.old from n (K.row cell) cells.new }
+    ensures { Spread K.Kind.row cells.old from n (K.Kind.row cell) cells.new }
 {
     for i in 0..n {
         cells[from + i] = cell;
@@ -35,8 +35,8 @@ pub(crate) fn spread<K: Kind>(cells: &mut [K], from: usize, n: usize, cell: K)
 // Z at a parent: `power` times its own count, and the sum of its children's Z.
 pub(crate) fn lifted<K: Kind>(own: K, power: u64, kids: K) -> K
     requires small { power < 2 ^ 63 }
-    requires lifts { Lifts carry_limit power (K.row own) (K.row kids) }
-    ensures { K.row result ≡ pos power ⊙ K.row own ⊕ K.row kids }
+    requires lifts { Lifts carry_limit power (K.Kind.row own) (K.Kind.row kids) }
+    ensures { K.Kind.row result ≡ pos power ⊙ K.Kind.row own ⊕ K.Kind.row kids }
 {
     plus(times(power, own), kids)
 }
@@ -45,8 +45,8 @@ pub(crate) fn lifted<K: Kind>(own: K, power: u64, kids: K) -> K
 pub(crate) fn handed<K: Kind>(own: K, gathered: K, carried: K, nodes: u64, factor: u64) -> K
     requires few { nodes < 2 ^ 63 }
     requires small { factor < 2 ^ 63 }
-    requires hands { Hands carry_limit nodes factor (K.row own) (K.row gathered) (K.row carried) }
-    ensures { K.row result ≡ K.row carried ⊕ pos factor ⊙ (pos nodes ⊙ K.row own ⊖ K.row gathered) }
+    requires hands { Hands carry_limit nodes factor (K.Kind.row own) (K.Kind.row gathered) (K.Kind.row carried) }
+    ensures { K.Kind.row result ≡ K.Kind.row carried ⊕ pos factor ⊙ (pos nodes ⊙ K.Kind.row own ⊖ K.Kind.row gathered) }
 {
     let rest = minus(times(nodes, own), gathered);
     plus(carried, times(factor, rest))
@@ -56,8 +56,8 @@ pub(crate) fn handed<K: Kind>(own: K, gathered: K, carried: K, nodes: u64, facto
 pub(crate) fn settled<K: Kind>(gathered: K, carried: K, factor: u64, power: u64) -> K
     requires small { factor < 2 ^ 63 }
     requires low { power < 2 ^ 63 }
-    requires settles { Settles carry_limit factor power (K.row gathered) (K.row carried) }
-    ensures { K.row result ≡ pos factor ⊙ K.row gathered ⊕ pos power ⊙ K.row carried }
+    requires settles { Settles carry_limit factor power (K.Kind.row gathered) (K.Kind.row carried) }
+    ensures { K.Kind.row result ≡ pos factor ⊙ K.Kind.row gathered ⊕ pos power ⊙ K.Kind.row carried }
 {
     plus(times(factor, gathered), times(power, carried))
 }

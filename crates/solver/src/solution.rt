@@ -16,8 +16,8 @@ impl<'a, K: Kind> Slices<'a, K> {
     // The two passes, and X of them.
     fn work_out(&mut self, shape: Shape) -> u64
         requires roomy { Roomy (size shape.fanout shape.height) self.old }
-        requires counts { (v : ℕ) → v < size shape.fanout shape.height → Within (entry_limit shape.fanout shape.height) (row_at K.row self.old.noisy.now v) }
-        ensures { Solved K.row K.width K.product shape.fanout shape.height result self.old self.new }
+        requires counts { (v : ℕ) → v < size shape.fanout shape.height → Within (entry_limit shape.fanout shape.height) (row_at K.Kind.row self.old.noisy.now v) }
+        ensures { Solved K.Kind.row K.width K.product shape.fanout shape.height result self.old self.new }
     {
         let d = shape.denominator();
         self.raise(shape);
@@ -33,10 +33,10 @@ pub fn solve<K: Kind>(shape: Shape, noisy: &mut [K], numerators: &mut [K], work:
     requires noisy { size shape.fanout shape.height ≤ length noisy.old }
     requires numerators { size shape.fanout shape.height ≤ length numerators.old }
     requires work { size shape.fanout shape.height ≤ length work.old }
-    requires counts { (v : ℕ) → v < size shape.fanout shape.height → Within (entry_limit shape.fanout shape.height) (row_at K.row noisy.old v) }
+    requires counts { (v : ℕ) → v < size shape.fanout shape.height → Within (entry_limit shape.fanout shape.height) (row_at K.Kind.row noisy.old v) }
     ensures denominator { Denominator shape.fanout shape.height result }
-    ensures solved { (v : ℕ) → v < size shape.fanout shape.height → row_at K.row numerators.new v ≡ X K.width shape.fanout shape.height result (row_at K.row noisy.old) v }
-    ensures nearest { Nearest K.width shape.fanout shape.height result K.product (row_at K.row noisy.old) (row_at K.row numerators.new) }
+    ensures solved { (v : ℕ) → v < size shape.fanout shape.height → row_at K.Kind.row numerators.new v ≡ X K.width shape.fanout shape.height result (row_at K.Kind.row noisy.old) v }
+    ensures nearest { Nearest K.width shape.fanout shape.height result K.product (row_at K.Kind.row noisy.old) (row_at K.Kind.row numerators.new) }
     ensures past { drop (size shape.fanout shape.height) numerators.new ≡ drop (size shape.fanout shape.height) numerators.old }
     ensures counted { noisy.new ≡ noisy.old }
     ensures scratch { drop (size shape.fanout shape.height) work.new ≡ drop (size shape.fanout shape.height) work.old }

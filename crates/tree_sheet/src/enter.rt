@@ -20,14 +20,14 @@ use history::Action;
 // Whether a component is over a limit, up to its sign.
 fn is_beyond<K: Kind>(cell: K, i: usize, limit: u32) -> bool
     requires { i < K.width }
-    ensures { result ≡ nat_lt limit (unsigned_abs (part (K.row cell) i)) }
+    ensures { result ≡ nat_lt limit (unsigned_abs (part (K.Kind.row cell) i)) }
 {
     cell.component(i).unwrap().unsigned_abs() > u64::from(limit)
 }
 
 // The first component of a cell that is over a limit, up to its sign.
 fn first_beyond<K: Kind>(cell: K, limit: u32) -> Option<usize>
-    ensures { result ≡ beyond limit (K.row cell) }
+    ensures { result ≡ beyond limit (K.Kind.row cell) }
 {
     for i in 0..K::width() {
         if is_beyond(cell, i, limit) {
@@ -39,7 +39,7 @@ fn first_beyond<K: Kind>(cell: K, limit: u32) -> Option<usize>
 
 // Whether a cell may be entered.
 fn check_count<K: Kind>(cell: K, limit: u32) -> Result<(), Denial>
-    ensures { Answers (rule_at EnteredBeyondLimit (beyond limit (K.row cell)) ∷ []) (λ _. Unit {0}) result }
+    ensures { Answers (rule_at EnteredBeyondLimit (beyond limit (K.Kind.row cell)) ∷ []) (λ _. Unit {0}) result }
 {
     if let Some(i) = first_beyond(cell, limit) {
         return Err(Denial {
@@ -65,8 +65,8 @@ impl<'a, K: Kind> Sheet<'a, K> {
 
     // Enters a count at a node.
     pub fn enter(&mut self, node: u32, cell: K) -> Result<(), Denial>
-        ensures outcome { Enters K.row self.old self.new node cell result }
-        ensures history { Carries K.row self.old self.new K.number K.width K.product (enter node (K.row cell)) (told result) }
+        ensures outcome { Enters K.Kind.row self.old self.new node cell result }
+        ensures history { Carries K.Kind.row self.old self.new K.number K.width K.product (enter node (K.Kind.row cell)) (told result) }
         ensures lent { Lent self.old self.new }
     {
         let shape = self.laid_node(node)?;
@@ -77,8 +77,8 @@ impl<'a, K: Kind> Sheet<'a, K> {
 
     // Enters a count at the node of a wire.
     pub fn enter_wire(&mut self, wire: u32, cell: K) -> Result<(), Denial>
-        ensures outcome { EntersWire K.row self.old self.new wire cell result }
-        ensures history { Carries K.row self.old self.new K.number K.width K.product (enter_wire wire (K.row cell)) (told result) }
+        ensures outcome { EntersWire K.Kind.row self.old self.new wire cell result }
+        ensures history { Carries K.Kind.row self.old self.new K.number K.width K.product (enter_wire wire (K.Kind.row cell)) (told result) }
         ensures lent { Lent self.old self.new }
     {
         let shape = self.laid()?;
@@ -97,7 +97,7 @@ impl<'a, K: Kind> Sheet<'a, K> {
     pub(crate) fn is_filled(&mut self, node: usize, limit: u32) -> bool
         requires noisy { node < length self.old.noisy.now }
         requires marks { node < length self.old.marks.now }
-        ensures value { result ≡ is_some (count_at K.row limit (contents self.old) node) }
+        ensures value { result ≡ is_some (count_at K.Kind.row limit (contents self.old) node) }
         ensures same { self.new ≡ self.old }
     {
         self.marks[node] == FILLED && first_beyond(self.noisy[node], limit).is_none()
@@ -115,8 +115,8 @@ impl<'a, K: Kind> Sheet<'a, K> {
 
     // Withdraws the count of a node.
     pub fn strike(&mut self, node: u32) -> Result<(), Denial>
-        ensures outcome { Strikes K.row self.old self.new node result }
-        ensures history { Carries K.row self.old self.new K.number K.width K.product (strike node) (told result) }
+        ensures outcome { Strikes K.Kind.row self.old self.new node result }
+        ensures history { Carries K.Kind.row self.old self.new K.number K.width K.product (strike node) (told result) }
         ensures lent { Lent self.old self.new }
     {
         let shape = self.laid_node(node)?;

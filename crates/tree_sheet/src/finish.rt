@@ -19,10 +19,10 @@ impl<'a, K: Kind> Sheet<'a, K> {
         requires level { suc k ≤ shape.height }
         requires small { d ≤ largest }
         requires roomy { Roomy (size shape.fanout shape.height) self.old }
-        requires bounded { Bounded K.width shape.fanout shape.height d carry_limit (row_at K.row self.old.noisy.now) }
-        requires raised { Raised K.row K.width shape.fanout shape.height (row_at K.row self.old.noisy.now) 0 self.old.work.now }
-        requires above { Finished K.row K.width shape.fanout shape.height d (row_at K.row self.old.noisy.now) (size shape.fanout (shape.height - suc k)) self.old.numerators.now }
-        ensures finished { Finished K.row K.width shape.fanout shape.height d (row_at K.row self.old.noisy.now) (size shape.fanout (shape.height - k)) self.new.numerators.now }
+        requires bounded { Bounded K.width shape.fanout shape.height d carry_limit (row_at K.Kind.row self.old.noisy.now) }
+        requires raised { Raised K.Kind.row K.width shape.fanout shape.height (row_at K.Kind.row self.old.noisy.now) 0 self.old.work.now }
+        requires above { Finished K.Kind.row K.width shape.fanout shape.height d (row_at K.Kind.row self.old.noisy.now) (size shape.fanout (shape.height - suc k)) self.old.numerators.now }
+        ensures finished { Finished K.Kind.row K.width shape.fanout shape.height d (row_at K.Kind.row self.old.noisy.now) (size shape.fanout (shape.height - k)) self.new.numerators.now }
         ensures only { OnlyNumerators (size shape.fanout shape.height) self.old self.new }
     {
         let factor = d / shape.size(k + 1) as u64;
@@ -39,10 +39,10 @@ impl<'a, K: Kind> Sheet<'a, K> {
     pub(crate) fn finish(&mut self, shape: Shape, d: u64)
         requires small { d ≤ largest }
         requires roomy { Roomy (size shape.fanout shape.height) self.old }
-        requires bounded { Bounded K.width shape.fanout shape.height d carry_limit (row_at K.row self.old.noisy.now) }
-        requires raised { Raised K.row K.width shape.fanout shape.height (row_at K.row self.old.noisy.now) 0 self.old.work.now }
-        requires lowered { Lowered K.row K.width shape.fanout shape.height d (row_at K.row self.old.noisy.now) (size shape.fanout shape.height) self.old.numerators.now }
-        ensures finished { Finished K.row K.width shape.fanout shape.height d (row_at K.row self.old.noisy.now) (size shape.fanout shape.height) self.new.numerators.now }
+        requires bounded { Bounded K.width shape.fanout shape.height d carry_limit (row_at K.Kind.row self.old.noisy.now) }
+        requires raised { Raised K.Kind.row K.width shape.fanout shape.height (row_at K.Kind.row self.old.noisy.now) 0 self.old.work.now }
+        requires lowered { Lowered K.Kind.row K.width shape.fanout shape.height d (row_at K.Kind.row self.old.noisy.now) (size shape.fanout shape.height) self.old.numerators.now }
+        ensures finished { Finished K.Kind.row K.width shape.fanout shape.height d (row_at K.Kind.row self.old.noisy.now) (size shape.fanout shape.height) self.new.numerators.now }
         ensures only { OnlyNumerators (size shape.fanout shape.height) self.old self.new }
     {
         for k in (0..shape.height).rev() {

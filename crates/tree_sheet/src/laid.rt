@@ -26,7 +26,7 @@ impl<'a, K: Kind> Sheet<'a, K> {
 
     // The laid shape.
     pub(crate) fn laid(&mut self) -> Result<Shape, Denial>
-        ensures answer { Answers (laid_rules (facts K.row (contents self.old))) (λ s. laid (contents self.old) ≡ Some (form_of s)) result }
+        ensures answer { Answers (laid_rules (facts K.Kind.row (contents self.old))) (λ s. laid (contents self.old) ≡ Some (form_of s)) result }
         ensures same { self.new ≡ self.old }
     {
         if let State::Filling(shape) | State::Released(shape) = self.state {
@@ -42,7 +42,7 @@ impl<'a, K: Kind> Sheet<'a, K> {
 
     // The laid shape, where it has this node.
     pub(crate) fn laid_node(&mut self, node: u32) -> Result<Shape, Denial>
-        ensures answer { Answers (node_rules (facts K.row (contents self.old)) node) (λ s. (laid (contents self.old) ≡ Some (form_of s)) × (node < nodes (form_of s))) result }
+        ensures answer { Answers (node_rules (facts K.Kind.row (contents self.old)) node) (λ s. (laid (contents self.old) ≡ Some (form_of s)) × (node < nodes (form_of s))) result }
         ensures same { self.new ≡ self.old }
     {
         let shape = self.laid()?;
@@ -64,7 +64,7 @@ impl<'a, K: Kind> Sheet<'a, K> {
 
     // The laid shape, where its counts are released.
     pub(crate) fn released(&mut self) -> Result<Shape, Denial>
-        ensures answer { Answers (released_rules (facts K.row (contents self.old))) (λ s. laid (contents self.old) ≡ Some (form_of s)) result }
+        ensures answer { Answers (released_rules (facts K.Kind.row (contents self.old))) (λ s. laid (contents self.old) ≡ Some (form_of s)) result }
         ensures same { self.new ≡ self.old }
     {
         let shape = self.laid()?;

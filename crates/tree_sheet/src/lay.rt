@@ -62,8 +62,8 @@ impl<'a, K: Kind> Sheet<'a, K> {
 
     // Lays a shape, in any state, and empties all its nodes.
     pub fn lay(&mut self, fanout: u32, height: u32) -> Result<(), Denial>
-        ensures outcome { Lays K.row self.old self.new fanout height result }
-        ensures history { Carries K.row self.old self.new K.number K.width K.product (lay fanout height) (told result) }
+        ensures outcome { Lays K.Kind.row self.old self.new fanout height result }
+        ensures history { Carries K.Kind.row self.old self.new K.number K.width K.product (lay fanout height) (told result) }
         ensures lent { Lent self.old self.new }
     {
         let shape = Shape::new(fanout, height)?;

@@ -11,7 +11,7 @@ use denial::Denial;
 impl<'a, K: Kind> Sheet<'a, K> {
     // The first line.
     pub fn first_line(&mut self, out: &mut [u8]) -> Result<usize, Denial>
-        ensures outcome { FirstLine K.row K.number (contents self.old) out.old result }
+        ensures outcome { FirstLine K.Kind.row K.number (contents self.old) out.old result }
         ensures buffer { out.new ≡ buffered (first_line_of K.number (contents self.old)) out.old result }
         ensures same { self.new ≡ self.old }
     {
@@ -22,8 +22,8 @@ impl<'a, K: Kind> Sheet<'a, K> {
 
     // The line of a node.
     pub fn node_line(&mut self, node: u32, out: &mut [u8]) -> Result<usize, Denial>
-        ensures outcome { NodeLine K.row (contents self.old) node out.old result }
-        ensures buffer { out.new ≡ buffered (node_line_of K.row (contents self.old) node) out.old result }
+        ensures outcome { NodeLine K.Kind.row (contents self.old) node out.old result }
+        ensures buffer { out.new ≡ buffered (node_line_of K.Kind.row (contents self.old) node) out.old result }
         ensures same { self.new ≡ self.old }
     {
         let seen = self.read(node)?;

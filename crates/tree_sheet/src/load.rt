@@ -21,7 +21,7 @@ use shapes::Shape;
 impl<'a, K: Kind> Sheet<'a, K> {
     // Reads a table of a shape into the noisy cells.
     fn read_noisy(&mut self, table: &[u8], shape: Shape) -> Result<(), Denial>
-        ensures answer { Answers (read_rules K.number K.width shape.fanout shape.height (length self.old.noisy.now) table.now) (λ _. TableRead K.row K.width table.now shape.fanout shape.height self.old.noisy.now self.new.noisy.now) result }
+        ensures answer { Answers (read_rules K.number K.width shape.fanout shape.height (length self.old.noisy.now) table.now) (λ _. TableRead K.Kind.row K.width table.now shape.fanout shape.height self.old.noisy.now self.new.noisy.now) result }
         ensures kept { OnErr result (contents self.new ≡ contents self.old) }
         ensures marks { self.new.marks ≡ self.old.marks }
         ensures numerators { self.new.numerators ≡ self.old.numerators }
@@ -48,8 +48,8 @@ impl<'a, K: Kind> Sheet<'a, K> {
 
     // Enters all the counts of a table of the laid shape, or none.
     pub fn load(&mut self, table: &[u8]) -> Result<(), Denial>
-        ensures outcome { Loads K.row self.old self.new K.number K.width table.now result }
-        ensures history { Carries K.row self.old self.new K.number K.width K.product (load table.now) (told result) }
+        ensures outcome { Loads K.Kind.row self.old self.new K.number K.width table.now result }
+        ensures history { Carries K.Kind.row self.old self.new K.number K.width K.product (load table.now) (told result) }
         ensures lent { Lent self.old self.new }
     {
         let shape = self.laid()?;

@@ -19,10 +19,10 @@ impl<'a, K: Kind> Sheet<'a, K> {
         requires level { (1 ≤ k) × (suc k ≤ shape.height) }
         requires small { d ≤ largest }
         requires roomy { Roomy (size shape.fanout shape.height) self.old }
-        requires bounded { Bounded K.width shape.fanout shape.height d carry_limit (row_at K.row self.old.noisy.now) }
-        requires raised { Raised K.row K.width shape.fanout shape.height (row_at K.row self.old.noisy.now) 0 self.old.work.now }
-        requires above { Lowered K.row K.width shape.fanout shape.height d (row_at K.row self.old.noisy.now) (size shape.fanout (shape.height - k)) self.old.numerators.now }
-        ensures lowered { Lowered K.row K.width shape.fanout shape.height d (row_at K.row self.old.noisy.now) (size shape.fanout (suc (shape.height - k))) self.new.numerators.now }
+        requires bounded { Bounded K.width shape.fanout shape.height d carry_limit (row_at K.Kind.row self.old.noisy.now) }
+        requires raised { Raised K.Kind.row K.width shape.fanout shape.height (row_at K.Kind.row self.old.noisy.now) 0 self.old.work.now }
+        requires above { Lowered K.Kind.row K.width shape.fanout shape.height d (row_at K.Kind.row self.old.noisy.now) (size shape.fanout (shape.height - k)) self.old.numerators.now }
+        ensures lowered { Lowered K.Kind.row K.width shape.fanout shape.height d (row_at K.Kind.row self.old.noisy.now) (size shape.fanout (suc (shape.height - k))) self.new.numerators.now }
         ensures only { OnlyNumerators (size shape.fanout shape.height) self.old self.new }
     {
         let fewer = shape.size(k) as u64;
@@ -42,9 +42,9 @@ impl<'a, K: Kind> Sheet<'a, K> {
     pub(crate) fn lower(&mut self, shape: Shape, d: u64)
         requires small { d ≤ largest }
         requires roomy { Roomy (size shape.fanout shape.height) self.old }
-        requires bounded { Bounded K.width shape.fanout shape.height d carry_limit (row_at K.row self.old.noisy.now) }
-        requires raised { Raised K.row K.width shape.fanout shape.height (row_at K.row self.old.noisy.now) 0 self.old.work.now }
-        ensures lowered { Lowered K.row K.width shape.fanout shape.height d (row_at K.row self.old.noisy.now) (size shape.fanout shape.height) self.new.numerators.now }
+        requires bounded { Bounded K.width shape.fanout shape.height d carry_limit (row_at K.Kind.row self.old.noisy.now) }
+        requires raised { Raised K.Kind.row K.width shape.fanout shape.height (row_at K.Kind.row self.old.noisy.now) 0 self.old.work.now }
+        ensures lowered { Lowered K.Kind.row K.width shape.fanout shape.height d (row_at K.Kind.row self.old.noisy.now) (size shape.fanout shape.height) self.new.numerators.now }
         ensures only { OnlyNumerators (size shape.fanout shape.height) self.old self.new }
     {
         self.numerators[0] = K::zero();

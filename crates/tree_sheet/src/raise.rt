@@ -16,7 +16,7 @@ impl<'a, K: Kind> Sheet<'a, K> {
     // Z at the leaves, which is their own count.
     fn raise_leaves(&mut self, shape: Shape)
         requires roomy { Roomy (size shape.fanout shape.height) self.old }
-        ensures raised { Raised K.row K.width shape.fanout shape.height (row_at K.row self.old.noisy.now) (size shape.fanout (shape.height - 1)) self.new.work.now }
+        ensures raised { Raised K.Kind.row K.width shape.fanout shape.height (row_at K.Kind.row self.old.noisy.now) (size shape.fanout (shape.height - 1)) self.new.work.now }
         ensures only { OnlyWork (size shape.fanout shape.height) self.old self.new }
     {
         for v in (shape.size(shape.height - 1)..shape.nodes()).rev() {
@@ -29,9 +29,9 @@ impl<'a, K: Kind> Sheet<'a, K> {
     fn raise_level(&mut self, shape: Shape, k: usize)
         requires level { (1 ≤ k) × (suc k ≤ shape.height) }
         requires roomy { Roomy (size shape.fanout shape.height) self.old }
-        requires bounded { (d : ℕ) × Bounded K.width shape.fanout shape.height d carry_limit (row_at K.row self.old.noisy.now) }
-        requires below { Raised K.row K.width shape.fanout shape.height (row_at K.row self.old.noisy.now) (size shape.fanout (shape.height - k)) self.old.work.now }
-        ensures raised { Raised K.row K.width shape.fanout shape.height (row_at K.row self.old.noisy.now) (size shape.fanout (shape.height - suc k)) self.new.work.now }
+        requires bounded { (d : ℕ) × Bounded K.width shape.fanout shape.height d carry_limit (row_at K.Kind.row self.old.noisy.now) }
+        requires below { Raised K.Kind.row K.width shape.fanout shape.height (row_at K.Kind.row self.old.noisy.now) (size shape.fanout (shape.height - k)) self.old.work.now }
+        ensures raised { Raised K.Kind.row K.width shape.fanout shape.height (row_at K.Kind.row self.old.noisy.now) (size shape.fanout (shape.height - suc k)) self.new.work.now }
         ensures only { OnlyWork (size shape.fanout shape.height) self.old self.new }
     {
         let power = shape.power(k) as u64;
@@ -46,8 +46,8 @@ impl<'a, K: Kind> Sheet<'a, K> {
     // Z at every node.
     pub(crate) fn raise(&mut self, shape: Shape)
         requires roomy { Roomy (size shape.fanout shape.height) self.old }
-        requires bounded { (d : ℕ) × Bounded K.width shape.fanout shape.height d carry_limit (row_at K.row self.old.noisy.now) }
-        ensures raised { Raised K.row K.width shape.fanout shape.height (row_at K.row self.old.noisy.now) 0 self.new.work.now }
+        requires bounded { (d : ℕ) × Bounded K.width shape.fanout shape.height d carry_limit (row_at K.Kind.row self.old.noisy.now) }
+        ensures raised { Raised K.Kind.row K.width shape.fanout shape.height (row_at K.Kind.row self.old.noisy.now) 0 self.new.work.now }
         ensures only { OnlyWork (size shape.fanout shape.height) self.old self.new }
     {
         self.raise_leaves(shape);

@@ -18,9 +18,9 @@ use shapes::Shape;
 impl<'a, K: Kind> Sheet<'a, K> {
     // The numerators of a node, and the denominator.
     pub fn read(&mut self, node: u32) -> Result<(K, u64), Denial>
-        ensures outcome { Reads K.row self.old node result }
+        ensures outcome { Reads K.Kind.row self.old node result }
         ensures same { self.new ≡ self.old }
-        ensures history { Carries K.row self.old self.new K.number K.width K.product (read node) (told_cell K.row result) }
+        ensures history { Carries K.Kind.row self.old self.new K.number K.width K.product (read node) (told_cell K.Kind.row result) }
     {
         let shape = self.laid_node(node)?;
         if !self.is_released() {
@@ -35,7 +35,7 @@ impl<'a, K: Kind> Sheet<'a, K> {
     // Writes the numerators of a shape into a buffer.
     fn write_numerators(&mut self, shape: Shape, out: &mut [u8]) -> Result<usize, Denial>
         ensures answer { Answers (write_rules (length self.old.numerators.now) (length out.old) K.width (size shape.fanout shape.height)) (λ n. n ≡ publication_length K.width (size shape.fanout shape.height)) result }
-        ensures written { MatchResult result (λ n. out.new ≡ publication K.number shape.fanout shape.height (denominator_of shape.fanout shape.height) (row_at K.row self.old.numerators.now) ++ drop n out.old) (λ _. out.new ≡ out.old) }
+        ensures written { MatchResult result (λ n. out.new ≡ publication K.number shape.fanout shape.height (denominator_of shape.fanout shape.height) (row_at K.Kind.row self.old.numerators.now) ++ drop n out.old) (λ _. out.new ≡ out.old) }
         ensures same { self.new ≡ self.old }
     {
         write_publication(shape, shape.denominator(), self.numerators, out)
@@ -43,10 +43,10 @@ impl<'a, K: Kind> Sheet<'a, K> {
 
     // Writes the release into a buffer, from its first byte on, and answers how many bytes it wrote.
     pub fn publish(&mut self, out: &mut [u8]) -> Result<usize, Denial>
-        ensures outcome { Publishes K.row self.old K.number K.width out.old out.new result }
+        ensures outcome { Publishes K.Kind.row self.old K.number K.width out.old out.new result }
         ensures kept { OnErr result (out.new ≡ out.old) }
         ensures same { self.new ≡ self.old }
-        ensures history { Carries K.row self.old self.new K.number K.width K.product (publish (length out.old)) (told_bytes out.new result) }
+        ensures history { Carries K.Kind.row self.old self.new K.number K.width K.product (publish (length out.old)) (told_bytes out.new result) }
         ensures again { SameBytes }
     {
         let shape = self.released()?;

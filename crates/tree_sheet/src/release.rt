@@ -23,7 +23,7 @@ impl<'a, K: Kind> Sheet<'a, K> {
     // The first node that has no count.
     fn first_empty(&mut self, shape: Shape) -> Option<usize>
         requires { Roomy (size shape.fanout shape.height) self.old }
-        ensures value { result ≡ empty_from 0 (map (count_at K.row (entry_limit shape.fanout shape.height) (contents self.old)) (range_with_len 0 (size shape.fanout shape.height))) }
+        ensures value { result ≡ empty_from 0 (map (count_at K.Kind.row (entry_limit shape.fanout shape.height) (contents self.old)) (range_with_len 0 (size shape.fanout shape.height))) }
         ensures same { self.new ≡ self.old }
     {
         let limit = shape.entry_limit();
@@ -38,8 +38,8 @@ impl<'a, K: Kind> Sheet<'a, K> {
     // Fills the numerators, and makes the state released.
     fn settle(&mut self, shape: Shape)
         requires roomy { Roomy (size shape.fanout shape.height) self.old }
-        requires counts { (v : ℕ) → v < size shape.fanout shape.height → Within (entry_limit shape.fanout shape.height) (row_at K.row self.old.noisy.now v) }
-        ensures freed { Freed K.row K.width (form_of shape) (contents self.old) (contents self.new) }
+        requires counts { (v : ℕ) → v < size shape.fanout shape.height → Within (entry_limit shape.fanout shape.height) (row_at K.Kind.row self.old.noisy.now v) }
+        ensures freed { Freed K.Kind.row K.width (form_of shape) (contents self.old) (contents self.new) }
         ensures lent { Lent self.old self.new }
     {
         self.solve(shape);
@@ -48,8 +48,8 @@ impl<'a, K: Kind> Sheet<'a, K> {
 
     // Works out the numerators for the counts. The first N work cells may be any cells after it.
     pub fn release(&mut self) -> Result<(), Denial>
-        ensures outcome { Releases K.row self.old self.new K.width result }
-        ensures history { Carries K.row self.old self.new K.number K.width K.product release (told result) }
+        ensures outcome { Releases K.Kind.row self.old self.new K.width result }
+        ensures history { Carries K.Kind.row self.old self.new K.number K.width K.product release (told result) }
         ensures lent { Lent self.old self.new }
     {
         let shape = self.laid()?;

@@ -18,7 +18,7 @@ use std::alloc::{AllocError, Global};
 const LONGEST: usize = 65_488;
 
 fn report<K: Kind>(res: Result<(), Denial>) -> Outcome<K>
-    ensures { reply K.row result ≡ told res }
+    ensures { reply K.Kind.row result ≡ told res }
 {
     match res {
         Ok(()) => Outcome::Done,
@@ -27,7 +27,7 @@ fn report<K: Kind>(res: Result<(), Denial>) -> Outcome<K>
 }
 
 fn report_cell<K: Kind>(res: Result<(K, u64), Denial>) -> Outcome<K>
-    ensures { reply K.row result ≡ told_cell K.row res }
+    ensures { reply K.Kind.row result ≡ told_cell K.Kind.row res }
 {
     match res {
         Ok(seen) => Outcome::Cell(seen.0, seen.1),
@@ -41,7 +41,7 @@ fn publication<K: Kind>(
     sheet: &mut Sheet<'_, K>,
     room: usize,
 ) -> Result<Outcome<K>, AllocError>
-    ensures answer { IfOk result (λ o. Carries K.row sheet.old sheet.new K.number K.width K.product (publish room) (reply K.row o)) }
+    ensures answer { IfOk result (λ o. Carries K.Kind.row sheet.old sheet.new K.number K.width K.product (publish room) (reply K.Kind.row o)) }
     ensures same { sheet.new ≡ sheet.old }
 {
     let mut bytes = Vec::from_elem(heap, 0u8, room.min(LONGEST))?;
@@ -60,7 +60,7 @@ fn perform<K: Kind>(
     sheet: &mut Sheet<'_, K>,
     call: &Call<K>,
 ) -> Result<Outcome<K>, AllocError>
-    ensures answer { MatchResult result (λ o. Carries K.row sheet.old sheet.new K.number K.width K.product (asked K.row call.now) (reply K.row o)) (λ _. sheet.new ≡ sheet.old) }
+    ensures answer { MatchResult result (λ o. Carries K.Kind.row sheet.old sheet.new K.number K.width K.product (asked K.Kind.row call.now) (reply K.Kind.row o)) (λ _. sheet.new ≡ sheet.old) }
     ensures lent { Lent sheet.old sheet.new }
 {
     match call {
@@ -86,8 +86,8 @@ pub fn replay<K: Kind>(
     work: &mut [K],
     calls: &[Call<K>],
 ) -> Result<Vec<Outcome<K>>, AllocError>
-    ensures run { IfOk result (λ log. Faithful K.number K.width K.product (record { noisy = length noisy.entry.now; marks = length marks.old; numerators = length numerators.old; work = length work.old }) [] (map (asked K.row) calls.now) (map (reply K.row) log.items)) }
-    ensures slices { MatchResult result (λ log. Leaves K.row K.width (past [] (map (asked K.row) calls.now) (map (reply K.row) log.items)) noisy.new marks.new numerators.new work.new) (λ _. (h : List Event) × Leaves K.row K.width h noisy.new marks.new numerators.new work.new) }
+    ensures run { IfOk result (λ log. Faithful K.number K.width K.product (record { noisy = length noisy.entry.now; marks = length marks.old; numerators = length numerators.old; work = length work.old }) [] (map (asked K.Kind.row) calls.now) (map (reply K.Kind.row) log.items)) }
+    ensures slices { MatchResult result (λ log. Leaves K.Kind.row K.width (past [] (map (asked K.Kind.row) calls.now) (map (reply K.Kind.row) log.items)) noisy.new marks.new numerators.new work.new) (λ _. (h : List Event) × Leaves K.Kind.row K.width h noisy.new marks.new numerators.new work.new) }
 {
     let mut sheet = Sheet {
         noisy,

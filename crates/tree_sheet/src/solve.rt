@@ -13,8 +13,8 @@ impl<'a, K: Kind> Sheet<'a, K> {
     // Fills the first n numerators with X over the shape's denominator, for n nodes. The first n work cells may be any cells after it.
     pub(crate) fn solve(&mut self, shape: Shape)
         requires roomy { Roomy (size shape.fanout shape.height) self.old }
-        requires counts { (v : ℕ) → v < size shape.fanout shape.height → Within (entry_limit shape.fanout shape.height) (row_at K.row self.old.noisy.now v) }
-        ensures { Solved K.row K.width shape.fanout shape.height self.old self.new }
+        requires counts { (v : ℕ) → v < size shape.fanout shape.height → Within (entry_limit shape.fanout shape.height) (row_at K.Kind.row self.old.noisy.now v) }
+        ensures { Solved K.Kind.row K.width shape.fanout shape.height self.old self.new }
     {
         let d = shape.denominator();
         self.raise(shape);
