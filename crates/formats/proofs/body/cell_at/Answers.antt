@@ -10,8 +10,8 @@ loop-i-preserved g c =
     let read =
     to_z-of_z w32 c.component.result fits ∙ c.component.ensures
     ∙ ap (λ (n : ℕ). word c.args.components.now (n * c.args.v + c.loop-i.i)) c.width-width.ensures in
-    parts_more (λ j. word c.args.components.now (g.K.Kind.width * c.args.v + j)) (g.K.Kind.row c.loop-i.cell) (g.K.Kind.row c.with-component-cell.result) c.loop-i.i _
-    (omega (arith, g.met.K.Kind.sized c.loop-i.cell)) c.with-component-cell.ensures read c.loop-i.invariant
+    parts_more (λ j. word c.args.components.now (g.K.Kind.width * c.args.v + j)) (g.K.Kind.row c.loop-i.cell) (g.K.Kind.row c.with_component-cell.result) c.loop-i.i _
+    (omega (arith, g.met.K.Kind.sized c.loop-i.cell)) c.with_component-cell.ensures read c.loop-i.invariant
 
 pub returns : goal.returns
 returns g c =

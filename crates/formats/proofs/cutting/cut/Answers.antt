@@ -4,18 +4,18 @@ use Rattle.formats.specs.Publication.{NodePart}
 use Rattle.formats.proofs.Cuts.{cut-refused, node-within, part-reads}
 use Rattle.formats.proofs.cutting.cut.Goals as goal
 
-pub returns-in-err-shape : goal.returns-in-err-shape
-returns-in-err-shape g c =
-    let p = err_from_is_err_and c.from-residual.result c.from-residual.ensures.1 in
+pub returns-in_err-shape : goal.returns-in_err-shape
+returns-in_err-shape g c =
+    let p = err_from_is_err_and c.from_residual.result c.from_residual.ensures.1 in
     rw (p.1, p.2) (record {
-      answer = cut-refused g.K.Kind.number g.K.Kind.width c.args.publication.now c.args.node _ c.in-err-shape.ensures;
+      answer = cut-refused g.K.Kind.number g.K.Kind.width c.args.publication.now c.args.node _ c.in_err-shape.ensures;
       reads = tt;
     })
 
-pub slice-bounds-result-end : goal.slice-bounds-result-end
-slice-bounds-result-end g c =
-    let told = c.in-ok-shape.ensures in
-    let within = node-within g.K.Kind.number g.K.Kind.width c.args.publication.now c.in-ok-shape.shape.fanout c.in-ok-shape.shape.height
+pub slice_bounds-result-end : goal.slice_bounds-result-end
+slice_bounds-result-end g c =
+    let told = c.in_ok-shape.ensures in
+    let within = node-within g.K.Kind.number g.K.Kind.width c.args.publication.now c.in_ok-shape.shape.fanout c.in_ok-shape.shape.height
     c.args.node c.nodes.result told.0 told.1.0 told.1.1 c.nodes.ensures.count c.if-node-nodes.false in
     let product = ap (λ (n : ℕ). n * c.args.node) c.width-width.ensures in
     search rules

@@ -11,9 +11,9 @@ pub loop-i-preserved : goal.loop-i-preserved
 loop-i-preserved g c =
     let fits : SFits w64 c.component.result = search rules in
     let from = c.args.at + 8 * c.loop-i.i in
-    c.write-eight.ensures
+    c.write_eight.ensures
     ∙ ap (λ z. take from c.loop-i.out ++ (z ++ drop (from + 8) c.loop-i.out))
-    (c.to-be-bytes-bytes.ensures ∙ eight_are _ ∙ ap eight_bytes (to_z-of_z w64 c.component.result fits))
+    (c.to_be_bytes-bytes.ensures ∙ eight_are _ ∙ ap eight_bytes (to_z-of_z w64 c.component.result fits))
     ∙ cell-more c.args.out.now c.args.at (g.K.Kind.row c.args.cell) c.loop-i.i c.component.result
     (omega (arith, g.met.K.Kind.sized c.args.cell)) c.component.ensures (omega (arith, g.met.K.Kind.sized c.args.cell, c.requires))
     c.loop-i.out c.loop-i.invariant

@@ -5,16 +5,16 @@ use Rattle.formats.specs.Publication.{row_bytes, table_bytes, place_of}
 use Rattle.formats.proofs.Overlay.{overlay-none, place-room, rows_written}
 use Rattle.formats.proofs.publication.write_cells.Goals as goal
 
-pub overflow-mul-width-in-loop-v : goal.overflow-mul-width-in-loop-v
-overflow-mul-width-in-loop-v g c =
+pub overflow_mul-width-in-loop-v : goal.overflow_mul-width-in-loop-v
+overflow_mul-width-in-loop-v g c =
     record { fits = omega (arith, place-room g.K.Kind.width c.loop-v.v c.args.n (length c.args.out.now) c.loop-v-test.true c.requires.room, ap (λ (n : ℕ). n * c.loop-v.v) c.width-width.ensures) }
 
-pub overflow-add-width : goal.overflow-add-width
-overflow-add-width g c =
+pub overflow_add-width : goal.overflow_add-width
+overflow_add-width g c =
     record { fits = omega (arith, place-room g.K.Kind.width c.loop-v.v c.args.n (length c.args.out.now) c.loop-v-test.true c.requires.room, ap (λ (n : ℕ). n * c.loop-v.v) c.width-width.ensures) }
 
-pub write-cell-requires : goal.write-cell-requires
-write-cell-requires g c =
+pub write_cell-requires : goal.write_cell-requires
+write_cell-requires g c =
     omega (arith, place-room g.K.Kind.width c.loop-v.v c.args.n (length c.args.out.now) c.loop-v-test.true c.requires.room, ap (λ (n : ℕ). n * c.loop-v.v) c.width-width.ensures)
 
 pub loop-v-init : goal.loop-v-init
@@ -24,7 +24,7 @@ pub loop-v-preserved : goal.loop-v-preserved
 loop-v-preserved g c =
     let w = g.K.Kind.width in
     let v = c.loop-v.v in
-    c.write-cell.ensures
+    c.write_cell.ensures
     ∙ ap (λ (n : ℕ). take (place_of n v) c.loop-v.out ++ (row_bytes (g.K.Kind.row c.index-cells-v.result) ++ drop (place_of n v + 8 * w) c.loop-v.out)) c.width-width.ensures
     ∙ rows_written c.args.out.now w c.args.n v (row_at g.K.Kind.row c.args.cells.now) (g.K.Kind.row c.index-cells-v.result)
     c.loop-v-test.true c.requires.room (λ u h. row_sized g.K.Kind.row w g.met.K.Kind.sized c.args.cells.now u (omega arith))

@@ -9,13 +9,13 @@ pub loop-i-preserved : goal.loop-i-preserved
 loop-i-preserved g c =
     let row = g.K.Kind.row c.args.cell in
     let d = c.args.denominator in
-    let x = c.in-ok-nearest-component.field-0 in
+    let x = c.in_ok-nearest_component.field-0 in
     let fits : SFits w64 x = search rules in
-    let value : to_z w64 (of_z w64 x) ≡ nearest (part row c.loop-i.i) d = held-as x (nearest (part row c.loop-i.i) d) fits c.in-ok-nearest-component.ensures.1 in
+    let value : to_z w64 (of_z w64 x) ≡ nearest (part row c.loop-i.i) d = held-as x (nearest (part row c.loop-i.i) d) fits c.in_ok-nearest_component.ensures.1 in
     let within : c.loop-i.i < length row = omega (arith, c.width-i-end.ensures, g.met.K.Kind.sized c.args.cell) in (
-      adds-field (nearest_field d) row c.loop-i.i within (ap signed_field value) c.loop-i.invariant.0 c.signed-field.ensures.adds,
-      omega (arith, c.loop-i.invariant.1, c.signed-field.ensures.adds.grown, c.signed-field.ensures.short),
-      λ _. c.in-ok-nearest-component.ensures.0,
+      adds-field (nearest_field d) row c.loop-i.i within (ap signed_field value) c.loop-i.invariant.0 c.signed_field.ensures.adds,
+      omega (arith, c.loop-i.invariant.1, c.signed_field.ensures.adds.grown, c.signed_field.ensures.short),
+      λ _. c.in_ok-nearest_component.ensures.0,
     )
 
 pub returns : goal.returns

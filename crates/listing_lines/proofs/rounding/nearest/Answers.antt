@@ -9,7 +9,7 @@ returns c =
     let n = c.args.numerator in
     let d = c.args.denominator in
     let same = to_z-of_z w64 n c.ranges.numerator in
-    let size : c.nearest-size-size.result ≡ nearest_size (nat_abs n) d =
-    c.nearest-size-size.ensures.value ∙ ap (λ x. nearest_size x d) (omega (arith, ints)) in
-    let value : c.with-sign.result ≡ nearest n d = (rw same at c.with-sign.ensures) ∙ by_sign n d _ size in
+    let size : c.nearest_size-size.result ≡ nearest_size (nat_abs n) d =
+    c.nearest_size-size.ensures.value ∙ ap (λ x. nearest_size x d) (omega (arith, ints)) in
+    let value : c.with_sign.result ≡ nearest n d = (rw same at c.with_sign.ensures) ∙ by_sign n d _ size in
     accepted n d _ c.if-denominator-eq0.false (omega (arith, ints))

@@ -15,8 +15,8 @@ use Rattle.solver.proofs.slices.Slices.finish_level.Given as given
 use Rattle.solver.proofs.slices.Slices.finish_level.Goals as goal
 use Rattle.solver.proofs.slices.Slices.finish_level.Goals.{After-index-self-v-in-loop-v}
 
-pub nonzero-div-factor : goal.nonzero-div-factor
-nonzero-div-factor g c = omega (arith, c.size.ensures.count, size-some c.args.shape.fanout (c.args.k + 1) (omega arith))
+pub nonzero_div-factor : goal.nonzero_div-factor
+nonzero_div-factor g c = omega (arith, c.size.ensures.count, size-some c.args.shape.fanout (c.args.k + 1) (omega arith))
 
 pub loop-v-init : goal.loop-v-init
 loop-v-init g c =

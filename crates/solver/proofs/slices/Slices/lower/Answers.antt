@@ -22,8 +22,8 @@ loop-k-init g c =
       numerators-none _ _,
     )
 
-pub lower-level-requires : goal.lower-level-requires
-lower-level-requires g c =
+pub lower_level-requires : goal.lower_level-requires
+lower_level-requires g c =
     let s = c.args.shape in
     let b = s.fanout in
     let L = s.height in

@@ -15,8 +15,8 @@ use Rattle.solver.proofs.slices.Slices.lower_level.Given as given
 use Rattle.solver.proofs.slices.Slices.lower_level.Goals as goal
 use Rattle.solver.proofs.slices.Slices.lower_level.Goals.{After-index-self-u-in-loop-u-2}
 
-pub nonzero-div-factor : goal.nonzero-div-factor
-nonzero-div-factor g c =
+pub nonzero_div-factor : goal.nonzero_div-factor
+nonzero_div-factor g c =
     let b = c.args.shape.fanout in
     omega (arith, mul-le 1 1 c.size-fewer.result c.size-nodes.result (omega (arith, c.size-fewer.ensures.count, size-some b c.args.k c.requires.level.0)) (omega (arith, c.size-nodes.ensures.count, size-some b (c.args.k + 1) (omega arith))))
 
