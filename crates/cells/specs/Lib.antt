@@ -1,3 +1,3 @@
 pub mod Calls
 pub mod Products
-pub mod ProductsLemmas
+pub mod ProductLaws

@@ -2,8 +2,8 @@
 ghost use Rattle.std.specs.Prelude.{◌≤◌, [], ◌∷◌, unsigned_abs};
 ghost use Rattle.cells.specs.Calls.{carry_limit};
 ghost use Rattle.cells.specs.Products.{single};
-ghost use Rattle.cells.specs.ProductsLemmas.{single-laws};
-ghost use Rattle.std.proofs.Common.{rules, arith};
+ghost use Rattle.cells.specs.ProductLaws.{single-laws};
+ghost use Rattle.std.proofs.Common.{rules};
 
 use crate::admission::admit;
 use crate::kind::Kind;
@@ -24,15 +24,15 @@ impl Kind for Single {
 
     ghost product = { single };
 
-    ghost numbered = { first_of (Prim.search rules, Prim.grind (arith, Self.row.coded.inj)) };
+    ghost numbered = { Prim.search rules };
 
-    ghost narrow = { first_of (Prim.search rules, Prim.grind (arith, Self.row.coded.inj)) };
+    ghost narrow = { Prim.search rules };
 
-    ghost sized = { first_of (Prim.search rules, Prim.grind (arith, Self.row.coded.inj)) };
+    ghost sized = { Prim.search rules };
 
-    ghost held = { first_of (Prim.search rules, Prim.grind (arith, Self.row.coded.inj)) };
+    ghost held = { Prim.search rules };
 
-    ghost lawful = { Prim.search single-laws };
+    ghost lawful = { single-laws };
 
     fn number() -> u8 {
         1

@@ -1,13 +1,11 @@
 -- Pieces that are written into a buffer, one after another.
-use Rattle.std.proofs.Common.{◌≡◌, ℕ, ◌+◌, ◌-◌, ◌*◌, ◌/◌, ◌%◌, ◌<◌, ◌≤◌, List, [], ◌∷◌, ◌++◌, length, take, drop, ℤ, pos, sym, refl, ap, ◌∙◌, append_assoc, mul-le-mul_left, mul-one, mul-add, div-one, arith, w64, of_z}
+use Rattle.std.proofs.Common.{◌≡◌, ℕ, ◌+◌, ◌-◌, ◌*◌, ◌/◌, ◌%◌, ◌<◌, ◌≤◌, List, [], ◌∷◌, ◌++◌, length, take, drop, ℤ, pos, sym, ap, ◌∙◌, append_assoc, mul-le-mul_left, mul-one, mul-add, div-one, arith}
 use borrow.Rule.Slice.PartMut.{put_mid, post_of}
-use Rattle.std.specs.List.{range_with_len, flat_map}
-use Rattle.std.proofs.lemmas.List.FromFn.{length-range_with_len}
 use Rattle.std.proofs.lemmas.List.{take-append-drop, drop-drop, take_at, drop_at, take_more, take_all, flat_map_more, length-append, length-take-le}
 use Rattle.algebra.specs.Row.{Row, part}
 use Rattle.formats.specs.Bytes.{bytes_of, eight_bytes}
 use Rattle.formats.specs.Publication.{row_bytes, table_bytes, place_of}
-use Rattle.formats.proofs.Blocks.{length-bytes_of, row-length, table-length, table_more}
+use Rattle.formats.proofs.Blocks.{row-length, table-length, table_more}
 
 pub put-eight : (a : ℕ) (xs ys zs : List ℕ) → ys ≡ zs → put_mid a (a + 8 - a) xs ys ≡ take a xs ++ (zs ++ drop (a + 8) xs)
 put-eight a xs ys zs e =

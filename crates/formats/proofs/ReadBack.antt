@@ -1,5 +1,5 @@
 -- What is read out of a publication is what was written into it.
-use Rattle.std.proofs.Common.{◌≡◌, ℕ, zero, suc, ◌+◌, ◌*◌, ◌/◌, ◌%◌, ◌^◌, ◌<◌, ◌≤◌, List, [], ◌∷◌, ◌++◌, length, get_or, take, drop, ℤ, pos, negsuc, nat_abs, sym, refl, ap, ◌∙◌, subst, mod-eq_of_lt, mul_assoc, add-mul, mul-le-mul_left, mul-one, mul-add, arith, w64, SFits, to_z, of_z}
+use Rattle.std.proofs.Common.{◌≡◌, ℕ, zero, suc, ◌+◌, ◌*◌, ◌/◌, ◌%◌, ◌^◌, ◌<◌, ◌≤◌, List, [], ◌∷◌, ◌++◌, length, get_or, take, drop, ℤ, pos, negsuc, nat_abs, sym, refl, ap, ◌∙◌, subst, mod-eq_of_lt, mul_assoc, add-mul, mul-one, arith, w64, SFits, to_z, of_z}
 use native.Mathlib.Nat.{mod-one, pow-succ'}
 use lib.Arith.{mod-mul}
 use Rattle.std.specs.Int.Digits.{number_from_digits_after}
@@ -10,7 +10,7 @@ use Rattle.algebra.proofs.Places.{row_sized}
 use Rattle.cells.specs.Calls.{carry_limit}
 use Rattle.shapes.specs.Tree.{size}
 use Rattle.formats.specs.Bytes.{bytes_at, unsigned, signed_eight, bytes_of, eight_bytes}
-use Rattle.formats.specs.Publication.{publication_header, row_bytes, table_bytes, publication, place_of, publication_length, row_from, published_row, OfCells, Says, ReadsBack}
+use Rattle.formats.specs.Publication.{publication_header, row_bytes, table_bytes, publication, place_of, publication_length, row_from, OfCells, Says, ReadsBack}
 use Rattle.formats.proofs.Blocks.{length-bytes_of, block, row-length, table-length, table-block}
 use Rattle.formats.proofs.Words.{row-tabulate}
 

@@ -92,7 +92,7 @@ fn publishes_and_cuts(rt: HostRuntime) -> Result<(), Fail> {
     assert_eq!(rt; part.offset, 32);
     assert_eq!(rt;
         part.bytes,
-        b"\0\0\0\0\0\x0f\x42\x40\xff\xff\xff\xff\xff\xf0\xbd\xc0"
+        b"\0\0\0\0\0\x0f\x42\x40\xff\xff\xff\xff\xff\xf0\xbd\xc0".as_slice()
     );
     assert_eq!(rt; cut_refusal(&out, 1), (26, 64));
     assert_eq!(rt; cut_refusal(&out[0..64], 3), (31, 3));

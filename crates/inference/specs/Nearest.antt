@@ -1,5 +1,5 @@
 -- What "nearest" means, for any product of rows that keeps the three laws.
-use Rattle.std.specs.Prelude.{◌≡◌, ℕ, ◌*◌, ◌≤◌, ℤ, pos, ◌*ℤ◌, ◌<ℤ◌, ◌≢◌}
+use Rattle.std.specs.Prelude.{ℕ, ◌*◌, ◌≤◌, ℤ, pos, ◌*ℤ◌, ◌<ℤ◌, ◌≢◌}
 use Rattle.std.specs.Int.{◌∣◌}
 use Rattle.algebra.specs.Row.{Row, Product, ◌⊖◌, ◌⊙◌}
 use Rattle.algebra.specs.Sum.{sum}

@@ -1,4 +1,4 @@
-use Rattle.std.proofs.Common.{ℕ, ◌*◌, ap, arith, rules}
+use Rattle.std.proofs.Common.{ℕ, ◌*◌, ap, rules}
 use Rattle.std.proofs.lemmas.Result.{err_from_is_err_and}
 use Rattle.formats.specs.Publication.{NodePart}
 use Rattle.formats.proofs.Cuts.{cut-refused, node-within, part-reads}

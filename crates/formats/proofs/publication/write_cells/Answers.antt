@@ -1,4 +1,4 @@
-use Rattle.std.proofs.Common.{◌≡◌, ℕ, ◌+◌, ◌*◌, ◌≤◌, ◌++◌, length, take, drop, ap, ◌∙◌, mul-zero, arith}
+use Rattle.std.proofs.Common.{◌≡◌, ℕ, ◌+◌, ◌*◌, ◌++◌, length, take, drop, ap, ◌∙◌, mul-zero, arith}
 use Rattle.algebra.specs.Row.{row_at}
 use Rattle.algebra.proofs.Places.{row_read, row_sized}
 use Rattle.formats.specs.Publication.{row_bytes, table_bytes, place_of}

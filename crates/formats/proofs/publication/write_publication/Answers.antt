@@ -1,4 +1,4 @@
-use Rattle.std.proofs.Common.{ℕ, ◌++◌, take, drop, sym, ap, ◌∙◌, arith, rules}
+use Rattle.std.proofs.Common.{ℕ, ◌++◌, take, drop, sym, ap, ◌∙◌, arith}
 use Rattle.algebra.specs.Row.{row_at}
 use Rattle.shapes.specs.Tree.{size}
 use Rattle.formats.specs.Publication.{publication_header, publication, publication_length, table_bytes}
