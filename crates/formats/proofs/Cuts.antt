@@ -1,10 +1,8 @@
 -- The refusals of taking bytes as a publication, stage by stage, and what is cut out of them.
-use Rattle.std.proofs.Common.{◌≡◌, ℕ, ◌+◌, ◌*◌, ◌<◌, ◌≤◌, Bool, false, not, ◌&&◌, eqb, ltb, leb, List, [], ◌∷◌, ◌++◌, length, ℤ, is_some, Some, None, Ok, Err, Option, Result, sym, refl, ap, ◌∙◌, zero-add, arith}
+use Rattle.std.proofs.Common.{◌≡◌, ℕ, ◌+◌, ◌*◌, ◌<◌, ◌≤◌, Bool, false, not, ◌&&◌, eqb, ltb, leb, List, [], ◌∷◌, ◌++◌, length, take, drop, is_some, Some, None, Ok, Err, Option, Result, sym, refl, ap, ◌∙◌, zero-add, arith}
 use Rattle.std.specs.Option.{option_or}
 use Rattle.std.proofs.lemmas.Bool.{and_from, le-leb, lt-leb, le-ltb, eq-eqb}
-use Rattle.algebra.specs.Row.{tabulate}
-use Rattle.algebra.proofs.Rows.{tabulate-length}
-use Rattle.denial.specs.Rules.{rule, first, Answers}
+use Rattle.denial.specs.Rules.{Rule, rule, first, Answers}
 use Rattle.denial.specs.declared.denial.Denial.{Denial}
 use Rattle.denial.specs.declared.reason.Reason.TheVariants.{FanoutRange, HeightRange, TooManyNodes, TableTooShort, WrongKind, WrongShape, WrongDenominator, WrongLength, NoSuchNode}
 use Rattle.shapes.specs.Denominator.{denominator_of}
@@ -17,12 +15,8 @@ use Rattle.formats.specs.NoisyTable.{kind_in, fanout_in, height_in, kind_rules}
 use Rattle.formats.specs.Publication.{publication, place_of, publication_length, denominator_in, row_from, published_row, header_rules, content_rules, published_rules, cut_rules, PublicationOf, NodePart, CutsBack}
 use Rattle.formats.proofs.Overlay.{place-room}
 use Rattle.formats.proofs.ReadBack.{bytes-within, reads-back}
-use Rattle.formats.proofs.Tables.{first-append}
-use Rattle.formats.proofs.Words.{part-tabulate, row-tabulate}
-
-second_none : {A : Type 0} (o p : Option A) → option_or o p ≡ None → p ≡ None
-second_none None p e = e
-second_none (Some x) p e = let z : ◌≡◌ {A = ℕ} 0 1 = cc in absurd (omega arith)
+use Rattle.formats.proofs.Tables.{first-append, second_none}
+use Rattle.formats.proofs.Words.{tabulate-same}
 
 -- the last of three rows does not apply
 third-passed : (x y : Bool) (n m : ℕ)
@@ -71,9 +65,6 @@ module _ (kind w : ℕ) (t : List ℕ) where
       → place_of w v + 8 * w ≤ length t
   node-within b L v n e p q s h =
       place-room w v n (length t) h (omega (arith, whole e, ap (λ m. w * m) (s ∙ (λ i. size (p i) (q i)))))
-
-tabulate-same : (w : ℕ) (f g : ℕ → ℤ) → ((i : ℕ) → i < w → f i ≡ g i) → tabulate w f ≡ tabulate w g
-tabulate-same w f g e = row-tabulate w g (tabulate w f) (tabulate-length w f) (λ i h. part-tabulate w f i h ∙ e i h)
 
 -- a part read alone
 pub part-reads : (w : ℕ) (bytes : List ℕ) (v at : ℕ) (part : List ℕ) → NodePart w bytes v at part → row_from w part 0 ≡ published_row w bytes v

@@ -1,5 +1,8 @@
+pub mod Again
 pub mod Blocks
 pub mod Cuts
+pub mod Loads
+pub mod Made
 pub mod Marks
 pub mod Overlay
 pub mod ReadBack

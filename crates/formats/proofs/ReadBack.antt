@@ -1,17 +1,18 @@
 -- What is read out of a publication is what was written into it.
-use Rattle.std.proofs.Common.{◌≡◌, ℕ, zero, suc, ◌+◌, ◌*◌, ◌/◌, ◌%◌, ◌^◌, ◌<◌, ◌≤◌, List, [], ◌∷◌, ◌++◌, length, get_or, take, drop, ℤ, pos, negsuc, nat_abs, sym, refl, ap, ◌∙◌, subst, mod-eq_of_lt, mul_assoc, add-mul, mul-one, arith, w64, SFits, to_z, of_z}
+use Rattle.std.proofs.Common.{◌≡◌, ℕ, zero, suc, ◌+◌, ◌*◌, ◌/◌, ◌%◌, ◌^◌, ◌<◌, ◌≤◌, List, [], ◌∷◌, ◌++◌, length, get_or, take, drop, ℤ, pos, negsuc, nat_abs, sym, refl, ap, ◌∙◌, subst, mod-eq_of_lt, mul_assoc, add-mul, mul-le-mul_left, mul-one, mul-add, arith, w64, SFits, to_z, of_z}
 use native.Mathlib.Nat.{mod-one, pow-succ'}
 use lib.Arith.{mod-mul}
+use Rattle.std.specs.List.{flat_map}
 use Rattle.std.specs.Int.Digits.{number_from_digits_after}
 use Rattle.std.proofs.lemmas.List.{drop_more, drop-drop, take_at, drop_at, take_all, get_or-take, get_or-drop, length-append}
 use Rattle.std.proofs.lemmas.Int.{to_z-of_z}
-use Rattle.algebra.specs.Row.{Row, part, row_at, Within}
+use Rattle.algebra.specs.Row.{Row, part, tabulate, row_at, Within}
 use Rattle.algebra.proofs.Places.{row_sized}
 use Rattle.cells.specs.Calls.{carry_limit}
 use Rattle.shapes.specs.Tree.{size}
 use Rattle.formats.specs.Bytes.{bytes_at, unsigned, signed_eight, bytes_of, eight_bytes}
-use Rattle.formats.specs.Publication.{publication_header, row_bytes, table_bytes, publication, place_of, publication_length, row_from, OfCells, Says, ReadsBack}
-use Rattle.formats.proofs.Blocks.{length-bytes_of, block, row-length, table-length, table-block}
+use Rattle.formats.specs.Publication.{publication_header, row_bytes, table_bytes, publication, place_of, publication_length, row_from, published_row, OfCells, Says, ReadsBack}
+use Rattle.formats.proofs.Blocks.{length-bytes_of, eight-long, block, row-long, row-length, table-length, table-block}
 use Rattle.formats.proofs.Words.{row-tabulate}
 
 -- the bytes from an offset on, in a list and in a part of one
@@ -43,6 +44,9 @@ number-back (suc n) acc x =
     ∙ omega (arith, add-mul (acc * 256) d (256 ^ n), mul_assoc acc 256 (256 ^ n), split)
     ∙ ap (λ m. acc * m + x % m) (sym (pow-succ' 256 n))
 
+pub unsigned-back-four : (x : ℕ) → x < 2 ^ 32 → unsigned (bytes_of 4 x) ≡ x
+unsigned-back-four x h = number-back 4 0 x ∙ omega (arith, mod-eq_of_lt h)
+
 pub unsigned_back : (x : ℕ) → x < 2 ^ 64 → unsigned (bytes_of 8 x) ≡ x
 unsigned_back x h = number-back 8 0 x ∙ omega (arith, mod-eq_of_lt h)
 
@@ -57,18 +61,26 @@ signed_back z h = ap (to_z w64) (unsigned_back (of_z w64 z) (small z h)) ∙ to_
     fits (pos n) h = record { sfits = omega arith }
     fits (negsuc n) h = record { sfits = omega arith }
 
--- a row whose bytes stand at an offset
+-- a row whose bytes stand at an offset, each component in c bytes that are read as it
+module _ (enc : ℤ → List ℕ) (dec : List ℕ → ℤ) (c : ℕ) (long : (x : ℤ) → length (enc x) ≡ c) where
+  pub row-read : (w off : ℕ) (bytes : List ℕ) (r : Row) → length r ≡ w → ((i : ℕ) → dec (enc (part r i)) ≡ part r i)
+      → take (c * w) (drop off bytes) ≡ flat_map enc r → tabulate w (λ i. dec (bytes_at bytes (off + c * i) c)) ≡ r
+  row-read w off bytes r l back e = sym (row-tabulate w (λ i. dec (bytes_at bytes (off + c * i) c)) r l each)
+    where
+      each : (i : ℕ) → i < w → part r i ≡ dec (bytes_at bytes (off + c * i) c)
+      each i h =
+          let more : i + 1 ≤ w = omega arith in
+          let inside : c * i + c ≤ c * w = omega (arith, mul-le-mul_left c more, mul-add c i 1, mul-one c) in
+          let room : c * i + c ≤ length (flat_map enc r) = omega (arith, row-long enc c long r, ap (λ n. c * n) l) in
+          sym (ap dec
+          (sym (bytes-within c (c * i) (c * w) off bytes inside)
+          ∙ ap (λ t. bytes_at t (c * i) c) e
+          ∙ bytes-taken c (c * i) (flat_map enc r) room
+          ∙ block enc c (pos 0) r (λ u k. long (part r u)) i (omega arith))
+          ∙ back i)
+
 pub row_in : (w off : ℕ) (bytes : List ℕ) (r : Row) → length r ≡ w → Within carry_limit r → take (8 * w) (drop off bytes) ≡ row_bytes r → row_from w bytes off ≡ r
-row_in w off bytes r l within e = sym (row-tabulate w (λ i. signed_eight (bytes_at bytes (off + 8 * i) 8)) r l each)
-  where
-    each : (i : ℕ) → i < w → part r i ≡ signed_eight (bytes_at bytes (off + 8 * i) 8)
-    each i h =
-        sym (ap signed_eight
-        (sym (bytes-within 8 (8 * i) (8 * w) off bytes (omega arith))
-        ∙ ap (λ t. bytes_at t (8 * i) 8) e
-        ∙ bytes-taken 8 (8 * i) (row_bytes r) (omega (arith, row-length r))
-        ∙ block eight_bytes 8 (pos 0) r (λ u k. length-bytes_of 8 (of_z w64 (part r u))) i (omega arith))
-        ∙ signed_back (part r i) (within i))
+row_in w off bytes r l within e = row-read eight_bytes signed_eight 8 eight-long w off bytes r l (λ i. signed_back (part r i) (within i)) e
 
 pub part-row : (w : ℕ) (r : Row) → length r ≡ w → Within carry_limit r → row_from w (row_bytes r) 0 ≡ r
 part-row w r l within = row_in w 0 (row_bytes r) r l within (take_all (8 * w) (row_bytes r) (omega (arith, row-length r)))
@@ -107,7 +119,7 @@ module _ (k w b L D : ℕ) (rows : ℕ → Row) (cells : OfCells w (size b L) ro
     numerators = λ v h. row_in w (place_of w v) (publication k b L D rows) (rows v) (sized v h) (cells v h).1 (node-bytes v h);
   }
 
-row-held : {K : Type 0} (row : K → Row) (limit : ℕ) → ((c : K) → Within limit (row c)) → (cells : List K) (v : ℕ) → Within limit (row_at row cells v)
+pub row-held : {K : Type 0} (row : K → Row) (limit : ℕ) → ((c : K) → Within limit (row c)) → (cells : List K) (v : ℕ) → Within limit (row_at row cells v)
 row-held row limit held [] v i = omega arith
 row-held row limit held (c ∷ cells) zero i = held c i
 row-held row limit held (c ∷ cells) (suc v) i = row-held row limit held cells v i

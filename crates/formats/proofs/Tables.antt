@@ -23,6 +23,14 @@ first-append (x ∷ xs) ys = go x.when (first-append xs ys)
     go true e = refl
     go false e = e
 
+pub first-none : {A : Type 0} (o p : Option A) → option_or o p ≡ None → o ≡ None
+first-none None p e = refl
+first-none (Some x) p e = e
+
+pub second_none : {A : Type 0} (o p : Option A) → option_or o p ≡ None → p ≡ None
+second_none None p e = e
+second_none (Some x) p e = let z : ◌≡◌ {A = ℕ} 0 1 = cc in absurd (omega arith)
+
 -- a body that is not refused
 pub body-whole : (limit w n : ℕ) (body : List ℕ) → first (body_rules limit w n body) ≡ None → length body ≡ 4 * (w * n)
 body-whole limit w n body e = grind arith
@@ -36,7 +44,7 @@ body-within limit w n body e = rows-within limit w n body (none (beyond limit (t
     none (Some i) true p = let z : ◌≡◌ {A = ℕ} 0 1 = cc in absurd (omega arith)
     none (Some i) false p = let z : ◌≡◌ {A = ℕ} 0 1 = cc in absurd (omega arith)
 
-abbrev room_rules : ℕ → ℕ → List Rule
+abbrev pub room_rules : ℕ → ℕ → List Rule
 room_rules room n = rule (ltb room n) SliceTooShort 1 ∷ []
 
 module _ (kind w room : ℕ) (t : List ℕ) where

@@ -1,9 +1,10 @@
 -- The words of a body, the rows that they make up, and the cells that are made of them.
-use Rattle.std.proofs.Common.{◌≡◌, ℕ, zero, suc, ◌+◌, ◌*◌, ◌<◌, ◌≤◌, true, false, ltb, ◌≢◌, List, [], ◌∷◌, length, drop, set, ℤ, pos, nat_abs, Some, None, Option, sym, refl, ap, ◌∙◌, ⊎_elim, mul-le-mul_left, mul-add, arith, below_more}
+use Rattle.std.proofs.Common.{◌≡◌, ℕ, zero, suc, ◌+◌, ◌*◌, ◌/◌, ◌%◌, ◌<◌, ◌≤◌, true, false, ltb, ◌≢◌, List, [], ◌∷◌, length, drop, set, ℤ, pos, nat_abs, Some, None, Option, sym, refl, ap, ◌∙◌, ⊎_elim, mod-lt, mul_comm, div-lt_iff_lt-mul, mul-le-mul_left, zero-mul, mul-add, arith, below_more}
+use native.Mathlib.Nat.{div-add-mod}
 use Rattle.std.proofs.lemmas.List.{get_or-set_same, get_or-set_other, get_or_past, drop-set-lt}
 use Rattle.std.proofs.lemmas.Bool.{cases_lt}
 use Rattle.algebra.specs.Row.{Row, part, tabulate, row_at, beyond, beyond_from, Within}
-use Rattle.algebra.proofs.Limits.{beyond-on, beyond-hit, beyond-end, none_within}
+use Rattle.algebra.proofs.Limits.{beyond-on, beyond-hit, beyond-end, none_within, within_none}
 use Rattle.algebra.proofs.Places.{row_same, row_other}
 use Rattle.algebra.proofs.Rows.{tabulate-length}
 use Rattle.formats.specs.Bytes.{word}
@@ -20,6 +21,9 @@ row-tabulate zero f [] e h = refl
 row-tabulate zero f (x ∷ r) e h = absurd (omega arith)
 row-tabulate (suc w) f [] e h = absurd (omega arith)
 row-tabulate (suc w) f (x ∷ r) e h = λ j. h 0 (omega arith) j ∷ row-tabulate w (λ i. f (suc i)) r (omega arith) (λ i k. h (suc i) (omega arith)) j
+
+pub tabulate-same : (w : ℕ) (f g : ℕ → ℤ) → ((i : ℕ) → i < w → f i ≡ g i) → tabulate w f ≡ tabulate w g
+tabulate-same w f g e = row-tabulate w g (tabulate w f) (tabulate-length w f) (λ i h. part-tabulate w f i h ∙ e i h)
 
 -- one more component is set
 pub parts_more : (f : ℕ → ℤ) (r s : Row) (i : ℕ) (x : ℤ) → i < length r → s ≡ set r i x → x ≡ f i
@@ -75,3 +79,24 @@ rows-within limit w n body none v h i = ⊎_elim inside past (cases_lt i w)
 
     past : w ≤ i → nat_abs (part (tabulate w (λ j. word body (w * v + j))) i) ≤ limit
     past k = let out = ap nat_abs (get_or_past (tabulate w (λ j. word body (w * v + j))) i (pos 0) (omega (arith, tabulate-length w (λ j. word body (w * v + j))))) in omega (arith, out)
+
+some-width : (w n j : ℕ) → j < w * n → 0 < w
+some-width zero n j h = absurd (omega (arith, zero-mul n))
+some-width (suc w) n j h = omega arith
+
+-- where no row's component is over a limit, none of n rows is
+pub rows_none : (limit w n : ℕ) (body : List ℕ) → ((v : ℕ) → v < n → Within limit (body_row w body v)) → beyond limit (tabulate (w * n) (word body)) ≡ None
+rows_none limit w n body within = within_none limit (tabulate (w * n) (word body)) (λ j. ⊎_elim (inside j) (past j) (cases_lt j (w * n)))
+  where
+    inside : (j : ℕ) → j < w * n → nat_abs (part (tabulate (w * n) (word body)) j) ≤ limit
+    inside j h =
+        let some = some-width w n j h in
+        let low : j % w < w = mod-lt j some in
+        let high : j / w < n = (div-lt_iff_lt-mul some).1 (omega (arith, mul_comm w n)) in
+        let there = ap nat_abs (part-tabulate (w * n) (word body) j h) in
+        let same = ap (λ m. nat_abs (word body m)) (div-add-mod j w) in
+        let here = ap nat_abs (part-tabulate w (λ i. word body (w * (j / w) + i)) (j % w) low) in
+        omega (arith, there, same, here, within (j / w) high (j % w))
+
+    past : (j : ℕ) → w * n ≤ j → nat_abs (part (tabulate (w * n) (word body)) j) ≤ limit
+    past j k = let out = ap nat_abs (get_or_past (tabulate (w * n) (word body)) j (pos 0) (omega (arith, tabulate-length (w * n) (word body)))) in omega (arith, out)

@@ -1,8 +1,13 @@
 -- Bytes that are read as numbers, and numbers that are written as bytes, the most significant byte first.
-use Rattle.std.specs.Prelude.{ℕ, zero, suc, ◌+◌, ◌*◌, ◌/◌, ◌%◌, ◌^◌, List, [], ◌∷◌, ℤ, slice_index}
+use Rattle.std.specs.Prelude.{ℕ, zero, suc, ◌+◌, ◌*◌, ◌/◌, ◌%◌, ◌^◌, ◌<◌, List, [], ◌∷◌, ℤ, slice_index}
 use Rattle.std.specs.Int.{w32, w64}
 use Rattle.std.proofs.Common.{to_z, of_z}
 use Rattle.std.specs.Int.Digits.{number_from_digits}
+use Rattle.std.specs.List.{AllByRecursion as All}
+
+-- Numbers that are bytes.
+abbrev pub AreBytes : List ℕ → Type 0
+AreBytes bytes = All (λ x. x < 256) bytes
 
 -- The n bytes from an offset on.
 abbrev pub bytes_at : List ℕ → ℕ → ℕ → List ℕ
@@ -28,6 +33,10 @@ signed_eight bytes = to_z w64 (unsigned bytes)
 unfoldable pub bytes_of : ℕ → ℕ → List ℕ
 bytes_of zero x = []
 bytes_of (suc n) x = (x / 256 ^ n % 256) ∷ bytes_of n x
+
+-- The four bytes of a signed number, in two's complement.
+abbrev pub four_bytes : ℤ → List ℕ
+four_bytes x = bytes_of 4 (of_z w32 x)
 
 -- The eight bytes of a signed number, in two's complement.
 abbrev pub eight_bytes : ℤ → List ℕ

@@ -2,14 +2,14 @@
 -- the height; then the components of nodes 0, 1, 2 …, four signed bytes each, those of one node side by side.
 use Rattle.std.specs.Prelude.{◌≡◌, ℕ, suc, ◌+◌, ◌*◌, ◌<◌, cond, not, List, [], ◌∷◌, ◌++◌, length, drop, Some, None, codes, Option, ◌==◌, nat_lt, slice_index}
 use Rattle.std.specs.Option.{option_map}
-use Rattle.std.specs.List.{between}
+use Rattle.std.specs.List.{range_with_len, flat_map, between}
 use Rattle.algebra.specs.Row.{Row, tabulate, row_at, beyond, Within}
-use Rattle.denial.specs.Rules.{Rule, rule, rule_at}
-use Rattle.denial.specs.declared.reason.Reason.TheVariants.{SliceTooShort, TableTooShort, WrongMark, WrongVersion, WrongKind, WrongLength, LoadedBeyondLimit}
+use Rattle.denial.specs.Rules.{Rule, rule, rule_at, first}
+use Rattle.denial.specs.declared.reason.Reason.TheVariants.{SliceTooShort, TableTooShort, WrongMark, WrongVersion, WrongKind, WrongShape, WrongLength, LoadedBeyondLimit}
 use Rattle.shapes.specs.Laid.{shape_rules, entry_limit}
 use Rattle.shapes.specs.Tree.{size}
 use Rattle.shapes.specs.declared.shape.Shape.{Shape}
-use Rattle.formats.specs.Bytes.{bytes_at, unsigned, word}
+use Rattle.formats.specs.Bytes.{AreBytes, bytes_at, unsigned, word, four_bytes}
 
 abbrev pub mark : List ℕ
 mark = codes "HCT"
@@ -78,6 +78,29 @@ read_rules kind w room table =
     ++ (rule (nat_lt room (size (fanout_in table) (height_in table))) SliceTooShort 1 ∷ [])
     ++ body_rules (entry_limit (fanout_in table) (height_in table)) w (size (fanout_in table) (height_in table)) (body_of table)
 
+-- Whether the fan-out and the height that a header names are b and L.
+abbrev pub like_rules : ℕ → ℕ → ℕ → ℕ → List Rule
+like_rules b L fanout height =
+    rule (not (fanout == b)) WrongShape 6
+    ∷ rule (not (height == L)) WrongShape 7
+    ∷ []
+
+-- Whether a table names the shape of fan-out b and height L.
+abbrev pub match_rules : ℕ → ℕ → List ℕ → List Rule
+match_rules b L table = like_rules b L (fanout_in table) (height_in table)
+
+-- Loading a table of a kind of width w onto the shape of fan-out b and height L.
+abbrev pub load_rules : ℕ → ℕ → ℕ → ℕ → List ℕ → List Rule
+load_rules kind w b L table = head_rules kind table ++ match_rules b L table ++ body_rules (entry_limit b L) w (size b L) (body_of table)
+
+-- Loading it into a slice of so many cells.
+abbrev pub load_into_rules : ℕ → ℕ → ℕ → ℕ → ℕ → List ℕ → List Rule
+load_into_rules kind w b L room table =
+    head_rules kind table
+    ++ match_rules b L table
+    ++ (rule (nat_lt room (size b L)) SliceTooShort 1 ∷ [])
+    ++ body_rules (entry_limit b L) w (size b L) (body_of table)
+
 -- A header taken apart: its kind, fan-out and height, and what stands after it.
 pub record HeaderOf (table : List ℕ) (k b L : ℕ) (components : List ℕ) : Type 0 where
   pub kind : k ≡ kind_in table
@@ -93,3 +116,29 @@ pub record TableRead {K : Type 0} (row : K → Row) (w : ℕ) (table : List ℕ)
   pub within : (v : ℕ) → v < size s.fanout s.height → Within (entry_limit s.fanout s.height) (row_at row after v)
   pub rest : drop (size s.fanout s.height) after ≡ drop (size s.fanout s.height) before
   pub same_length : length after ≡ length before
+
+-- What the cells of a slice hold after a table of fan-out b and height L was loaded into it.
+pub record TableLoaded {K : Type 0} (row : K → Row) (w : ℕ) (table : List ℕ) (b L : ℕ) (before after : List K) : Type 0 where
+  pub fanout : fanout_in table ≡ b
+  pub height : height_in table ≡ L
+  pub rows : (v : ℕ) → v < size b L → row_at row after v ≡ table_row w table v
+  pub within : (v : ℕ) → v < size b L → Within (entry_limit b L) (row_at row after v)
+  pub rest : drop (size b L) after ≡ drop (size b L) before
+  pub same_length : length after ≡ length before
+
+-- The table of kind k, fan-out b and height L that is made of rows.
+abbrev pub noisy_table : ℕ → ℕ → ℕ → (ℕ → Row) → List ℕ
+noisy_table k b L rows = mark ++ (0 ∷ 1 ∷ k ∷ b ∷ L ∷ []) ++ flat_map (λ v. flat_map four_bytes (rows v)) (range_with_len 0 (size b L))
+
+-- The first n rows are of width w, with no component over a limit, up to its sign.
+abbrev pub RowsWithin : ℕ → ℕ → ℕ → (ℕ → Row) → Type 0
+RowsWithin limit w n rows = (v : ℕ) → v < n → (length (rows v) ≡ w) × Within limit (rows v)
+
+-- Tables and rows determine one another: a table that is made of rows is bytes, is loaded, and has those rows; and a table
+-- that is loaded is the one that is made of its rows.
+pub record LaysOut : Type 0 where
+  pub made : (k w b L : ℕ) (rows : ℕ → Row) → k < 256 → b < 256 → L < 256 → RowsWithin (entry_limit b L) w (size b L) rows
+      → AreBytes (noisy_table k b L rows)
+      × (first (load_rules k w b L (noisy_table k b L rows)) ≡ None)
+      × ((v : ℕ) → v < size b L → table_row w (noisy_table k b L rows) v ≡ rows v)
+  pub again : (k w b L : ℕ) (table : List ℕ) → AreBytes table → first (load_rules k w b L table) ≡ None → noisy_table k b L (table_row w table) ≡ table

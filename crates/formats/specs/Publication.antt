@@ -10,7 +10,7 @@ use Rattle.denial.specs.declared.reason.Reason.TheVariants.{SliceTooShort, Table
 use Rattle.shapes.specs.Denominator.{denominator_of}
 use Rattle.shapes.specs.Laid.{Shapely, shape_rules}
 use Rattle.shapes.specs.Tree.{size}
-use Rattle.formats.specs.Bytes.{bytes_at, unsigned, signed_eight, bytes_of, eight_bytes}
+use Rattle.formats.specs.Bytes.{AreBytes, bytes_at, unsigned, signed_eight, bytes_of, eight_bytes}
 use Rattle.formats.specs.NoisyTable.{kind_in, fanout_in, height_in, mark_rules, kind_rules}
 
 abbrev pub publication_mark : List ℕ
@@ -79,6 +79,12 @@ write_rules cells room w n =
 -- Whether these bytes are a publication at all.
 abbrev pub header_rules : List ℕ → List Rule
 header_rules bytes = rule (nat_lt (length bytes) 16) TableTooShort (length bytes) ∷ mark_rules publication_mark bytes
+
+-- Bytes that are a publication at all are the one that was written of what they say.
+abbrev pub OnePublication : Type 0
+OnePublication =
+    (bytes : List ℕ) (k w b L D : ℕ) (rows : ℕ → Row) → AreBytes bytes → first (header_rules bytes) ≡ None → Says bytes k w b L D rows
+    → bytes ≡ publication k b L D rows
 
 -- Whether n bytes can be a publication of rows of width w that names fan-out b, height L and the denominator D.
 abbrev pub content_rules : ℕ → ℕ → ℕ → ℕ → ℕ → List Rule

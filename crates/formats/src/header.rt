@@ -2,7 +2,7 @@
 ghost use Rattle.std.specs.Prelude.{◌≡◌};
 ghost use Rattle.denial.specs.Rules.{Answers};
 ghost use Rattle.shapes.specs.Laid.{shape_rules};
-ghost use Rattle.formats.specs.NoisyTable.{unlike, mark_rules, HeaderOf, form_rules, kind_rules};
+ghost use Rattle.formats.specs.NoisyTable.{unlike, mark_rules, HeaderOf, form_rules, kind_rules, like_rules};
 
 use cells::Kind;
 use denial::{Denial, Reason};
@@ -82,6 +82,25 @@ impl Header<'_> {
             return Err(Denial {
                 reason: Reason::WrongKind,
                 place: 5,
+            });
+        }
+        Ok(())
+    }
+
+    // Whether the table is of this shape.
+    pub fn check_shape(self, shape: Shape) -> Result<(), Denial>
+        ensures { Answers (like_rules shape.fanout shape.height self.entry.fanout self.entry.height) (λ _. Unit {0}) result }
+    {
+        if usize::from(self.fanout) != shape.fanout {
+            return Err(Denial {
+                reason: Reason::WrongShape,
+                place: 6,
+            });
+        }
+        if usize::from(self.height) != shape.height {
+            return Err(Denial {
+                reason: Reason::WrongShape,
+                place: 7,
             });
         }
         Ok(())

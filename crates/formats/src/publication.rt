@@ -3,7 +3,7 @@ ghost use Rattle.std.specs.Prelude.{◌≡◌, ℕ, ◌+◌, ◌*◌, ◌<◌, �
 ghost use Rattle.algebra.specs.Row.{part, row_at};
 ghost use Rattle.denial.specs.Rules.{Answers};
 ghost use Rattle.shapes.specs.Tree.{size};
-ghost use Rattle.formats.specs.Publication.{publication_front, publication_header, row_bytes, table_bytes, publication, publication_length, Says, ReadsBack, CutsBack, write_rules};
+ghost use Rattle.formats.specs.Publication.{publication_front, publication_header, row_bytes, table_bytes, publication, publication_length, Says, ReadsBack, CutsBack, OnePublication, write_rules};
 
 use crate::header::VERSION;
 use cells::Kind;
@@ -16,11 +16,13 @@ pub(crate) const HEADER_BYTES: usize = 16;
 
 pub(crate) const COMPONENT_BYTES: usize = 8;
 
-// How many bytes a publication has. Every publication is read back as it was written, and so is each node that is cut out.
+// How many bytes a publication has. Every publication is read back as it was written, and so is each node that is cut out;
+// what it says is said by no other bytes.
 pub fn publication_length<K: Kind>(shape: Shape) -> usize
     ensures value { result ≡ publication_length K.width (size shape.fanout shape.height) }
     ensures law { ReadsBack }
     ensures cuts { CutsBack }
+    ensures one { OnePublication }
 {
     HEADER_BYTES + COMPONENT_BYTES * (K::width() * shape.nodes())
 }
