@@ -1,5 +1,5 @@
 -- What is spelt by the words that a slice holds.
-use Rattle.std.proofs.Common.{◌≡◌, ℕ, ◌-◌, ◌<◌, ◌≤◌, ◌⊎◌, List, [], ◌∷◌, map, length, get_or, take, drop, Ok, Err, Result, sym, refl, ap, ◌∙◌, subst, inl, inr, arith, Bor, MutBor, MatchResult}
+use Rattle.std.proofs.Common.{◌≡◌, ℕ, ◌-◌, ◌<◌, ◌≤◌, ◌⊎◌, List, [], ◌∷◌, map, length, get_or, take, drop, Ok, Err, Result, sym, refl, ap, ◌∙◌, subst, inl, inr, arith, Bor, MatchResult}
 use Rattle.std.proofs.lemmas.List.{take_all}
 use Rattle.algebra.specs.Row.{Row}
 use Rattle.tree_sheet.specs.declared.call.Call.{Call}
@@ -50,7 +50,7 @@ bytes_read items ws d (Err m) l (inl e) = inl e
 bytes_read items ws d (Err m) l (inr h) = inr (λ bs b. h.1 (subst Hex (texts-at ws 0 d (omega arith)) b.1))
 
 -- a call
-module _ {K : Type 0} (w : ℕ) (row : K → Row) (ws : List (MutBor (List ℕ))) (d : MutBor (List ℕ)) (some : 1 ≤ length ws) where
+module _ {K : Type 0} (w : ℕ) (row : K → Row) (ws : List (Bor (List ℕ))) (d : Bor (List ℕ)) (some : 1 ≤ length ws) where
   pub spelt : (call : Call K) → (get_or ws 0 d).now ≡ name_of call → Argued w row (texts (rest ws)) call → Spells w row (texts ws) call
   spelt call e a = record {
     some = omega (arith, texts-length ws);

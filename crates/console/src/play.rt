@@ -12,7 +12,7 @@ use std::io;
 use tree_sheet::{Call, replay, zero_cells};
 
 // Why a script is not played.
-#[derive(Drop)]
+#[derive(Debug, Drop)]
 pub enum Stop {
     Wrong(Trouble),
     NoMemory,

@@ -10,9 +10,9 @@ use Rattle.denial.specs.Rules.{rule, rule_at, first, Answers}
 use Rattle.denial.specs.declared.denial.Denial.{Denial}
 use Rattle.denial.specs.declared.reason.Reason.TheVariants.{SliceTooShort, EnteredBeyondLimit, NoSuchNode, SomeNodeEmpty, Unlaid}
 use Rattle.shapes.specs.Tree.{wire}
-use Rattle.formats.specs.NoisyTable.{read_rules, load_rules as table_rules, TableRead}
+use Rattle.formats.specs.NoisyTable.{load_into_rules, load_rules as table_rules, TableLoaded}
 use Rattle.formats.specs.Publication.{publication, publication_length, write_rules}
-use Rattle.formats.proofs.Tables.{room-enough}
+use Rattle.formats.proofs.Loads.{room-enough}
 use Rattle.history.specs.Contents.{Contents, rooms, laid, facts, count_at, counts_in}
 use Rattle.history.specs.Effects.{Loaded, denominator}
 use Rattle.history.specs.Facts.{Form, nodes, limit, fanout_of, height_of, nodes_of, limit_of, wires_of}
@@ -123,7 +123,7 @@ module _ {K : Type 0} (row : K → Row) (s : Sheet K) (f : Form) (e : laid (cont
       ∙ ap (λ t. first (rule_at SomeNodeEmpty (empty_from 0 (counts_in row t (contents s))) ∷ [])) e
       ∙ ap (λ t. first (rule_at SomeNodeEmpty t ∷ [])) (sym q)
 
-  pub load-rules : (k w : ℕ) (table : List ℕ) → first (load_rules k w (facts row (contents s)) table) ≡ first (read_rules k w f.fanout f.height (length s.noisy.now) table)
+  pub load-rules : (k w : ℕ) (table : List ℕ) → first (load_rules k w (facts row (contents s)) table) ≡ first (load_into_rules k w f.fanout f.height (length s.noisy.now) table)
   load-rules k w table =
       back (laid_rules (facts row (contents s))) (table_rules k w (fanout_of (laid (contents s))) (height_of (laid (contents s))) table) passed
       ∙ ap (λ o. first (table_rules k w (fanout_of o) (height_of o) table)) e
@@ -148,7 +148,7 @@ ready row s f e none = record { roomy = roomy-laid s f e; counts = counts-within
 
 -- a table was read into t, the sheet s but for its noisy cells, and then the nodes were marked
 pub loaded-so : {K : Type 0} (row : K → Row) (w n : ℕ) (f : Form) (table : List ℕ) (s t s' : Sheet K) → n ≡ nodes f
-    → TableRead row w table f.fanout f.height s.noisy.now t.noisy.now → t.marks ≡ s.marks → t.numerators ≡ s.numerators → t.work ≡ s.work → t.state ≡ s.state
+    → TableLoaded row w table f.fanout f.height s.noisy.now t.noisy.now → t.marks ≡ s.marks → t.numerators ≡ s.numerators → t.work ≡ s.work → t.state ≡ s.state
     → s'.marks.now ≡ replicate n 1 ++ drop n t.marks.now → s'.noisy ≡ t.noisy → s'.numerators ≡ t.numerators → s'.work ≡ t.work → s'.state ≡ next t.state Change
     → Loaded row w (nodes f) table (contents s) (contents s')
 loaded-so row w n f table s t s' e d m u k q m' x u' k' q' = record {

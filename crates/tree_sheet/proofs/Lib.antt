@@ -1,6 +1,6 @@
 pub mod Ended
 pub mod Marked
-pub mod Only
+pub mod Lending
 pub mod Lined
 pub mod Wider
 pub mod Ran

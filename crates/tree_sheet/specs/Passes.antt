@@ -1,4 +1,4 @@
--- What the passes ask of a tree sheet, and what they leave alone.
+-- What the solver asks of a tree sheet, and what it leaves alone.
 use Rattle.std.specs.Prelude.{◌≡◌, ℕ, ◌<◌, ◌≤◌, length, drop}
 use Rattle.algebra.specs.Row.{Row, row_at}
 use Rattle.shapes.specs.Denominator.{denominator_of}
@@ -19,26 +19,6 @@ pub record Lent {K : Type 0} (s s' : Sheet K) : Type 0 where
   pub marks : s'.marks.ghost_name ≡ s.marks.ghost_name
   pub numerators : s'.numerators.ghost_name ≡ s.numerators.ghost_name
   pub work : s'.work.ghost_name ≡ s.work.ghost_name
-
--- Only the first n work cells may have changed.
-pub record OnlyWork {K : Type 0} (n : ℕ) (s s' : Sheet K) : Type 0 where
-  pub lent : Lent s s'
-  pub noisy : s'.noisy.now ≡ s.noisy.now
-  pub marks : s'.marks.now ≡ s.marks.now
-  pub state : s'.state ≡ s.state
-  pub numerators : s'.numerators.now ≡ s.numerators.now
-  pub long : length s'.work.now ≡ length s.work.now
-  pub past : drop n s'.work.now ≡ drop n s.work.now
-
--- Only the first n numerators may have changed.
-pub record OnlyNumerators {K : Type 0} (n : ℕ) (s s' : Sheet K) : Type 0 where
-  pub lent : Lent s s'
-  pub noisy : s'.noisy.now ≡ s.noisy.now
-  pub marks : s'.marks.now ≡ s.marks.now
-  pub state : s'.state ≡ s.state
-  pub work : s'.work.now ≡ s.work.now
-  pub long : length s'.numerators.now ≡ length s.numerators.now
-  pub past : drop n s'.numerators.now ≡ drop n s.numerators.now
 
 -- X over D stands at every node, for the noisy cells; the first n work cells are free, all else stays.
 pub record Solved {K : Type 0} (row : K → Row) (w b L : ℕ) (s s' : Sheet K) : Type 0 where

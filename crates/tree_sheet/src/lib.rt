@@ -3,15 +3,12 @@
 
 mod call;
 mod enter;
-mod finish;
 mod laid;
 mod lay;
 mod line;
 mod load;
-mod lower;
 mod making;
 mod marks;
-mod raise;
 mod read;
 mod release;
 mod runs;

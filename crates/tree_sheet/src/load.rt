@@ -1,7 +1,7 @@
 // Loading a noisy table.
 ghost use Rattle.std.specs.Prelude.{◌≡◌, ◌≤◌, ◌++◌, length, drop, replicate, OnErr};
 ghost use Rattle.denial.specs.Rules.{Answers};
-ghost use Rattle.formats.specs.NoisyTable.{read_rules, TableRead};
+ghost use Rattle.formats.specs.NoisyTable.{load_into_rules, TableLoaded};
 ghost use Rattle.history.specs.Events.{load};
 ghost use Rattle.history.specs.Replies.{told};
 ghost use Rattle.history.specs.States.{next};
@@ -14,14 +14,14 @@ use crate::marks::{FILLED, mark_all};
 use crate::sheet::Sheet;
 use cells::Kind;
 use denial::Denial;
-use formats::read_table;
+use formats::load_table;
 use history::Action;
 use shapes::Shape;
 
 impl<'a, K: Kind> Sheet<'a, K> {
     // Reads a table of a shape into the noisy cells.
     fn read_noisy(&mut self, table: &[u8], shape: Shape) -> Result<(), Denial>
-        ensures answer { Answers (read_rules K.number K.width shape.fanout shape.height (length self.old.noisy.now) table.now) (λ _. TableRead K.Kind.row K.width table.now shape.fanout shape.height self.old.noisy.now self.new.noisy.now) result }
+        ensures answer { Answers (load_into_rules K.number K.width shape.fanout shape.height (length self.old.noisy.now) table.now) (λ _. TableLoaded K.Kind.row K.width table.now shape.fanout shape.height self.old.noisy.now self.new.noisy.now) result }
         ensures kept { OnErr result (contents self.new ≡ contents self.old) }
         ensures marks { self.new.marks ≡ self.old.marks }
         ensures numerators { self.new.numerators ≡ self.old.numerators }
@@ -29,7 +29,7 @@ impl<'a, K: Kind> Sheet<'a, K> {
         ensures state { self.new.state ≡ self.old.state }
         ensures lent { Lent self.old self.new }
     {
-        read_table(table, shape, self.noisy)
+        load_table(table, shape, self.noisy)
     }
 
     // Marks the first n nodes as filled.

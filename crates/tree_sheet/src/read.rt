@@ -15,6 +15,15 @@ use denial::{Denial, Reason};
 use formats::write_publication;
 use shapes::Shape;
 
+// Writes the numerators of a shape into a buffer.
+fn write_from<K: Kind>(shape: Shape, numerators: &mut [K], out: &mut [u8]) -> Result<usize, Denial>
+    ensures answer { Answers (write_rules (length numerators.old) (length out.old) K.width (size shape.fanout shape.height)) (λ n. n ≡ publication_length K.width (size shape.fanout shape.height)) result }
+    ensures written { MatchResult result (λ n. out.new ≡ publication K.number shape.fanout shape.height (denominator_of shape.fanout shape.height) (row_at K.Kind.row numerators.old) ++ drop n out.old) (λ _. out.new ≡ out.old) }
+    ensures same { numerators.new ≡ numerators.old }
+{
+    write_publication(shape, shape.denominator(), numerators, out)
+}
+
 impl<'a, K: Kind> Sheet<'a, K> {
     // The numerators of a node, and the denominator.
     pub fn read(&mut self, node: u32) -> Result<(K, u64), Denial>
@@ -38,7 +47,7 @@ impl<'a, K: Kind> Sheet<'a, K> {
         ensures written { MatchResult result (λ n. out.new ≡ publication K.number shape.fanout shape.height (denominator_of shape.fanout shape.height) (row_at K.Kind.row self.old.numerators.now) ++ drop n out.old) (λ _. out.new ≡ out.old) }
         ensures same { self.new ≡ self.old }
     {
-        write_publication(shape, shape.denominator(), self.numerators, out)
+        write_from(shape, self.numerators, out)
     }
 
     // Writes the release into a buffer, from its first byte on, and answers how many bytes it wrote.

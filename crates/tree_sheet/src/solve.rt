@@ -1,4 +1,4 @@
-// The two passes one after the other.
+// The solver over the sheet's slices.
 ghost use Rattle.std.specs.Prelude.{ℕ, ◌<◌};
 ghost use Rattle.algebra.specs.Row.{row_at, Within};
 ghost use Rattle.shapes.specs.Laid.{entry_limit};
@@ -16,9 +16,6 @@ impl<'a, K: Kind> Sheet<'a, K> {
         requires counts { (v : ℕ) → v < size shape.fanout shape.height → Within (entry_limit shape.fanout shape.height) (row_at K.Kind.row self.old.noisy.now v) }
         ensures { Solved K.Kind.row K.width shape.fanout shape.height self.old self.new }
     {
-        let d = shape.denominator();
-        self.raise(shape);
-        self.lower(shape, d);
-        self.finish(shape, d);
+        let _denominator = solver::solve(shape, self.noisy, self.numerators, self.work);
     }
 }

@@ -10,4 +10,4 @@ pub returns-then-arguments-eq0 : goal.returns-then-arguments-eq0
 returns-then-arguments-eq0 c = no_bytes c.args.arguments.now (vec_items c.new.result) (omega arith) c.new.ensures.items
 
 pub returns : goal.returns
-returns c = bytes_read (λ v. vec_items v) c.args.arguments.now _ c.read-hex.result (omega arith) c.read-hex.ensures
+returns c = bytes_read (λ v. vec_items v) c.args.arguments.now _ c.read_hex.result (omega arith) c.read_hex.ensures

@@ -7,11 +7,11 @@ use Rattle.console.proofs.outcome.outcomes_text.Goals as goal
 pub loop-outcome-preserved : goal.loop-outcome-preserved
 loop-outcome-preserved g c =
     let x = c.outcome-item.result in
-    let piece = c.as-str.result.now in
-    joined-next (outcome_line g.K.Kind.row) [] c.args.outcomes.now c.loop-outcome.outcome-index x x (string_bytes c.push-str.new.self) piece
+    let piece = c.as_str.result.now in
+    joined-next (outcome_line g.K.Kind.row) [] c.args.outcomes.now c.loop-outcome.outcome-index x x (string_bytes c.push_str.new.self) piece
     c.loop-outcome-test.true c.outcome-item.is
-    (pushed piece c.loop-outcome.invariant c.in-ok-push-str.was c.push-str.ensures.bytes)
-    (c.as-str.ensures.value ∙ c.in-ok-outcome-text.ensures)
+    (pushed piece c.loop-outcome.invariant c.in_ok-push_str.was c.push_str.ensures.bytes)
+    (c.as_str.ensures.value ∙ c.in_ok-outcome_text.ensures)
 
 pub returns : goal.returns
 returns g c =

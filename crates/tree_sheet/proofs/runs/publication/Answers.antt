@@ -15,15 +15,15 @@ returns-in-Ok g c =
     let dot = g.K.Kind.product in
     let s = c.args.sheet.now in
     let s' = c.publish.new.self in
-    let zeros : vec_items c.in-ok-bytes.bytes ≡ replicate c.min.result 0 = c.in-ok-bytes.ensures.items-if-clones-equal (λ y q. q) in
-    let long : length c.as-mut-slice.result.now ≡ min c.args.room 65488
-    = ap length (c.as-mut-slice.ensures.value ∙ zeros) ∙ length-replicate c.min.result 0 ∙ c.min.ensures in
-    let bytes : vec_items (with_items c.in-ok-bytes.bytes c.publish.new.out) ≡ c.publish.new.out
-    = with_items_is c.in-ok-bytes.bytes c.publish.new.out (c.publish.auto.out ∙ c.as-mut-slice.ensures.len) in
+    let zeros : vec_items c.in_ok-bytes.bytes ≡ replicate c.min.result 0 = c.in_ok-bytes.ensures.items_if_clones_equal (λ y q. q) in
+    let long : length c.as_mut_slice.result.now ≡ min c.args.room 65488
+    = ap length (c.as_mut_slice.ensures.value ∙ zeros) ∙ length-replicate c.min.result 0 ∙ c.min.ensures in
+    let bytes : vec_items (with_items c.in_ok-bytes.bytes c.publish.new.out) ≡ c.publish.new.out
+    = with_items_is c.in_ok-bytes.bytes c.publish.new.out (c.publish.auto.out ∙ c.as_mut_slice.ensures.len) in
     let cut = c.truncate.ensures.items ∙ ap (take c.in-Ok.n) bytes in
     record {
       answer = subst (λ (out : List ℕ). Stepped row k w dot (contents s) (publish c.args.room) (printed out) (contents s')) (sym cut)
-          (wider row k w dot (contents s) (contents s') g.met.K.Kind.narrow.1 (length c.as-mut-slice.result.now) c.args.room long _ c.in-Ok.ensures.history);
+          (wider row k w dot (contents s) (contents s') g.met.K.Kind.narrow.1 (length c.as_mut_slice.result.now) c.args.room long _ c.in-Ok.ensures.history);
       same = c.in-Ok.ensures.same;
     }
 
@@ -35,10 +35,10 @@ returns-in-Err g c =
     let dot = g.K.Kind.product in
     let s = c.args.sheet.now in
     let s' = c.publish.new.self in
-    let zeros : vec_items c.in-ok-bytes.bytes ≡ replicate c.min.result 0 = c.in-ok-bytes.ensures.items-if-clones-equal (λ y q. q) in
-    let long : length c.as-mut-slice.result.now ≡ min c.args.room 65488
-    = ap length (c.as-mut-slice.ensures.value ∙ zeros) ∙ length-replicate c.min.result 0 ∙ c.min.ensures in
+    let zeros : vec_items c.in_ok-bytes.bytes ≡ replicate c.min.result 0 = c.in_ok-bytes.ensures.items_if_clones_equal (λ y q. q) in
+    let long : length c.as_mut_slice.result.now ≡ min c.args.room 65488
+    = ap length (c.as_mut_slice.ensures.value ∙ zeros) ∙ length-replicate c.min.result 0 ∙ c.min.ensures in
     record {
-      answer = wider row k w dot (contents s) (contents s') g.met.K.Kind.narrow.1 (length c.as-mut-slice.result.now) c.args.room long _ c.in-Err.ensures.history;
+      answer = wider row k w dot (contents s) (contents s') g.met.K.Kind.narrow.1 (length c.as_mut_slice.result.now) c.args.room long _ c.in-Err.ensures.history;
       same = c.in-Err.ensures.same;
     }

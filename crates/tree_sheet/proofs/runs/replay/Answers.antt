@@ -6,7 +6,7 @@ use Rattle.history.proofs.Kept.{new-represents}
 use Rattle.tree_sheet.specs.Held.{contents}
 use Rattle.tree_sheet.specs.Replay.{asked, reply}
 use Rattle.tree_sheet.specs.declared.sheet.Sheet.{Sheet}
-use Rattle.tree_sheet.proofs.Only.{lent_same, lent-then}
+use Rattle.tree_sheet.proofs.Lending.{lent_same, lent-then}
 use Rattle.tree_sheet.proofs.Ran.{ran-none, ran-more, ran-all, leaves-so}
 use Rattle.tree_sheet.proofs.runs.replay.Goals as goal
 
@@ -19,10 +19,10 @@ loop-call-init g c = (
 
 pub loop-call-preserved : goal.loop-call-preserved
 loop-call-preserved g c = (
-  ran-more g.K.Kind.row g.K.Kind.number g.K.Kind.width g.K.Kind.product _ c.args.calls.now c.loop-call.call-index c.call-item.result c.in-ok-outcome.outcome
+  ran-more g.K.Kind.row g.K.Kind.number g.K.Kind.width g.K.Kind.product _ c.args.calls.now c.loop-call.call-index c.call-item.result c.in_ok-outcome.outcome
       (vec_items c.loop-call.log) (vec_items c.push.new.self) c.loop-call.sheet c.perform.new.sheet c.loop-call-test.true c.call-item.is
-      c.in-ok-push.ensures.items c.loop-call.invariant.0 c.in-ok-outcome.ensures.answer,
-  lent-then _ c.loop-call.sheet c.perform.new.sheet c.loop-call.invariant.1 c.in-ok-outcome.ensures.lent,
+      c.in_ok-push.ensures.items c.loop-call.invariant.0 c.in_ok-outcome.ensures.answer,
+  lent-then _ c.loop-call.sheet c.perform.new.sheet c.loop-call.invariant.1 c.in_ok-outcome.ensures.lent,
 )
 
 pub returns : goal.returns
@@ -35,10 +35,10 @@ returns g c =
       slices = leaves-so row g.K.Kind.width _ c.loop-call.sheet _ _ _ _ came.held (search rules) (search rules) (search rules) (search rules);
     }
 
-pub returns-in-err-outcome : goal.returns-in-err-outcome
-returns-in-err-outcome g c =
-    let p = err_from_is_err_and c.from-residual.result c.from-residual.ensures.1 in
-    let same = c.in-err-outcome.ensures.answer in
+pub returns-in_err-outcome : goal.returns-in_err-outcome
+returns-in_err-outcome g c =
+    let p = err_from_is_err_and c.from_residual.result c.from_residual.ensures.1 in
+    let same = c.in_err-outcome.ensures.answer in
     let h = past [] (map (asked g.K.Kind.row) (take c.loop-call.call-index c.args.calls.now)) (map (reply g.K.Kind.row) (vec_items c.loop-call.log)) in
     rw p.1 (record {
       run = tt;
@@ -49,14 +49,14 @@ returns-in-err-outcome g c =
       );
     })
 
-pub returns-in-err-push : goal.returns-in-err-push
-returns-in-err-push g c =
-    let p = err_from_is_err_and c.from-residual-in-err-push.result c.from-residual-in-err-push.ensures.1 in
+pub returns-in_err-push : goal.returns-in_err-push
+returns-in_err-push g c =
+    let p = err_from_is_err_and c.from_residual-in_err-push.result c.from_residual-in_err-push.ensures.1 in
     rw p.1 (record {
       run = tt;
       slices = (
         _,
         leaves-so g.K.Kind.row g.K.Kind.width _ c.perform.new.sheet _ _ _ _
-            (c.in-ok-outcome.ensures.answer.kept _ c.loop-call.invariant.0.held) (search rules) (search rules) (search rules) (search rules),
+            (c.in_ok-outcome.ensures.answer.kept _ c.loop-call.invariant.0.held) (search rules) (search rules) (search rules) (search rules),
       );
     })

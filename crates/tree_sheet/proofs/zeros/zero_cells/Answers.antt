@@ -9,5 +9,5 @@ loop-i-preserved g c =
     let x = c.zero.result in (
       search rules,
       rows_more g.K.Kind.row (vec_items c.loop-i.cells) (vec_items c.push.new.self) x c.loop-i.i (zeros g.K.Kind.width) c.loop-i.invariant.1 c.zero.ensures
-          (pushed (x ∷ []) refl c.in-ok-push.was c.push.ensures.items),
+          (pushed (x ∷ []) refl c.in_ok-push.was c.push.ensures.items),
     )

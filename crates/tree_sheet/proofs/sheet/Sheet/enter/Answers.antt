@@ -10,42 +10,42 @@ use Rattle.tree_sheet.specs.Held.{contents}
 use Rattle.tree_sheet.specs.Passes.{Lent}
 use Rattle.tree_sheet.specs.declared.sheet.Sheet.{Sheet}
 use Rattle.tree_sheet.proofs.Ended.{count-rules}
-use Rattle.tree_sheet.proofs.Only.{lent_same}
+use Rattle.tree_sheet.proofs.Lending.{lent_same}
 use Rattle.tree_sheet.proofs.sheet.Sheet.enter.Goals as goal
 
-pub returns-in-err-shape : goal.returns-in-err-shape
-returns-in-err-shape g c =
+pub returns-in_err-shape : goal.returns-in_err-shape
+returns-in_err-shape g c =
     let row = g.K.Kind.row in
     let k = g.K.Kind.number in
     let w = g.K.Kind.width in
     let dot = g.K.Kind.product in
     let s = c.args.self.now in
-    let s' = c.laid-node.new.self in
+    let s' = c.laid_node.new.self in
     let v = c.args.node in
     let x = c.args.cell in
-    let r = c.from-residual.result in
-    let p = err_from_is_err_and c.from-residual.result c.from-residual.ensures.1 in
-    let same = c.in-err-shape.ensures.same in
-    let e = front (node_rules (facts row (contents s)) v) (count_rules (facts row (contents s)) (row x)) _ c.in-err-shape.ensures.answer in
+    let r = c.from_residual.result in
+    let p = err_from_is_err_and c.from_residual.result c.from_residual.ensures.1 in
+    let same = c.in_err-shape.ensures.same in
+    let e = front (node_rules (facts row (contents s)) v) (count_rules (facts row (contents s)) (row x)) _ c.in_err-shape.ensures.answer in
     let a : Enters row s s' v x r = subst (Enters row s s' v x) (sym (p.1 ∙ ap Err p.2)) (e, ap contents same) in
     record { outcome = a; history = enter_step row k w dot (contents s) (contents s') v x r a; lent = subst (Lent s) (sym same) (lent_same s) }
 
-pub returns-in-err-check-count : goal.returns-in-err-check-count
-returns-in-err-check-count g c =
+pub returns-in_err-check_count : goal.returns-in_err-check_count
+returns-in_err-check_count g c =
     let row = g.K.Kind.row in
     let k = g.K.Kind.number in
     let w = g.K.Kind.width in
     let dot = g.K.Kind.product in
     let s = c.args.self.now in
-    let s' = c.laid-node.new.self in
+    let s' = c.laid_node.new.self in
     let v = c.args.node in
     let x = c.args.cell in
-    let r = c.from-residual-in-err-check-count.result in
-    let p = err_from_is_err_and c.from-residual-in-err-check-count.result c.from-residual-in-err-check-count.ensures.1 in
-    let shape = c.in-ok-shape.ensures.answer in
-    let same = c.in-ok-shape.ensures.same in
+    let r = c.from_residual-in_err-check_count.result in
+    let p = err_from_is_err_and c.from_residual-in_err-check_count.result c.from_residual-in_err-check_count.ensures.1 in
+    let shape = c.in_ok-shape.ensures.answer in
+    let same = c.in_ok-shape.ensures.same in
     let e = back (node_rules (facts row (contents s)) v) (count_rules (facts row (contents s)) (row x)) shape.0
-    ∙ count-rules row s (form_of c.in-ok-shape.shape) shape.1.0 c.entry-limit.result (row x) c.entry-limit.ensures ∙ c.in-err-check-count.ensures in
+    ∙ count-rules row s (form_of c.in_ok-shape.shape) shape.1.0 c.entry_limit.result (row x) c.entry_limit.ensures ∙ c.in_err-check_count.ensures in
     let a : Enters row s s' v x r = subst (Enters row s s' v x) (sym (p.1 ∙ ap Err p.2)) (e, ap contents same) in
     record { outcome = a; history = enter_step row k w dot (contents s) (contents s') v x r a; lent = subst (Lent s) (sym same) (lent_same s) }
 
@@ -59,10 +59,10 @@ returns g c =
     let s' = c.store.new.self in
     let v = c.args.node in
     let x = c.args.cell in
-    let shape = c.in-ok-shape.ensures.answer in
-    let same = c.in-ok-shape.ensures.same in
+    let shape = c.in_ok-shape.ensures.answer in
+    let same = c.in_ok-shape.ensures.same in
     let e = back (node_rules (facts row (contents s)) v) (count_rules (facts row (contents s)) (row x)) shape.0
-    ∙ count-rules row s (form_of c.in-ok-shape.shape) shape.1.0 c.entry-limit.result (row x) c.entry-limit.ensures ∙ c.in-ok-check-count.ensures.0 in
+    ∙ count-rules row s (form_of c.in_ok-shape.shape) shape.1.0 c.entry_limit.result (row x) c.entry_limit.ensures ∙ c.in_ok-check_count.ensures.0 in
     let d : Entered v x (contents s) (contents s') = subst (λ (t : Sheet _). Entered v x (contents t) (contents s')) same c.store.ensures.entered in
     record {
       outcome = (e, d);

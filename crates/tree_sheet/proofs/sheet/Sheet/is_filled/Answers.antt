@@ -11,7 +11,7 @@ returns-then-self-node-eq-FILLED g c =
     let s = c.args.self.now in
     let copied = row_copied row s.noisy.now c.args.node c.index-self-node.result c.requires.noisy in
     record {
-      value = filled-so row c.args.limit (contents s) c.args.node c.first-beyond.result c.is-none.result c.if-self-node-eq-FILLED.true
-          (c.first-beyond.ensures ∙ ap (λ (r : Row). beyond c.args.limit r) copied) c.is-none.ensures;
+      value = filled-so row c.args.limit (contents s) c.args.node c.first_beyond.result c.is_none.result c.if-self-node-eq-FILLED.true
+          (c.first_beyond.ensures ∙ ap (λ (r : Row). beyond c.args.limit r) copied) c.is_none.ensures;
       same = refl;
     }

@@ -12,8 +12,8 @@ use Rattle.tree_sheet.specs.declared.sheet.Sheet.{Sheet}
 use Rattle.tree_sheet.proofs.Ended.{Wrote, wrote_so, buffer-kept}
 use Rattle.tree_sheet.proofs.sheet.Sheet.publish.Goals as goal
 
-pub returns-in-err-shape : goal.returns-in-err-shape
-returns-in-err-shape g c =
+pub returns-in_err-shape : goal.returns-in_err-shape
+returns-in_err-shape g c =
     let row = g.K.Kind.row in
     let k = g.K.Kind.number in
     let w = g.K.Kind.width in
@@ -21,9 +21,9 @@ returns-in-err-shape g c =
     let s = c.args.self.now in
     let s' = c.released.new.self in
     let out = c.args.out.now in
-    let p = err_from_is_err_and c.from-residual.result c.from-residual.ensures.1 in
-    let same = c.in-err-shape.ensures.same in
-    let e = front (released_rules (facts row (contents s))) (buffer_rule (length out) (publication_length w (nodes_of (laid (contents s)))) ∷ []) _ c.in-err-shape.ensures.answer in
+    let p = err_from_is_err_and c.from_residual.result c.from_residual.ensures.1 in
+    let same = c.in_err-shape.ensures.same in
+    let e = front (released_rules (facts row (contents s))) (buffer_rule (length out) (publication_length w (nodes_of (laid (contents s)))) ∷ []) _ c.in_err-shape.ensures.answer in
     rw (p.1, p.2) (record {
       outcome = e;
       kept = refl;
@@ -39,15 +39,15 @@ returns g c =
     let w = g.K.Kind.width in
     let dot = g.K.Kind.product in
     let s = c.args.self.now in
-    let s' = c.write-numerators.new.self in
-    let r = c.write-numerators.result in
+    let s' = c.write_numerators.new.self in
+    let r = c.write_numerators.result in
     let before = c.args.out.now in
-    let after = c.write-numerators.new.out in
-    let shape = c.in-ok-shape.ensures.answer in
-    let first-same = c.in-ok-shape.ensures.same in
-    let same = c.write-numerators.ensures.same ∙ first-same in
-    let f = form_of c.in-ok-shape.shape in
-    let wrote = subst (λ (t : Sheet _). Wrote row k w t f before after r) first-same (c.write-numerators.ensures.answer, c.write-numerators.ensures.written) in
+    let after = c.write_numerators.new.out in
+    let shape = c.in_ok-shape.ensures.answer in
+    let first-same = c.in_ok-shape.ensures.same in
+    let same = c.write_numerators.ensures.same ∙ first-same in
+    let f = form_of c.in_ok-shape.shape in
+    let wrote = subst (λ (t : Sheet _). Wrote row k w t f before after r) first-same (c.write_numerators.ensures.answer, c.write_numerators.ensures.written) in
     let a = wrote_so row k w s f before after r shape.1 shape.0 wrote in
     record {
       outcome = a;

@@ -11,19 +11,19 @@ use Rattle.tree_sheet.specs.Held.{contents}
 use Rattle.tree_sheet.specs.declared.sheet.Sheet.{Sheet}
 use Rattle.tree_sheet.proofs.sheet.Sheet.read.Goals as goal
 
-pub returns-in-err-shape : goal.returns-in-err-shape
-returns-in-err-shape g c =
+pub returns-in_err-shape : goal.returns-in_err-shape
+returns-in_err-shape g c =
     let row = g.K.Kind.row in
     let k = g.K.Kind.number in
     let w = g.K.Kind.width in
     let dot = g.K.Kind.product in
     let s = c.args.self.now in
-    let s' = c.laid-node.new.self in
+    let s' = c.laid_node.new.self in
     let v = c.args.node in
-    let r = c.from-residual.result in
-    let p = err_from_is_err_and c.from-residual.result c.from-residual.ensures.1 in
-    let same = c.in-err-shape.ensures.same in
-    let e = front (node_rules (facts row (contents s)) v) (released_rule (facts row (contents s)) ∷ []) _ c.in-err-shape.ensures.answer in
+    let r = c.from_residual.result in
+    let p = err_from_is_err_and c.from_residual.result c.from_residual.ensures.1 in
+    let same = c.in_err-shape.ensures.same in
+    let e = front (node_rules (facts row (contents s)) v) (released_rule (facts row (contents s)) ∷ []) _ c.in_err-shape.ensures.answer in
     let a : Reads row s v r = subst (Reads row s v) (sym (p.1 ∙ ap Err p.2)) e in
     record { outcome = a; same = same; history = read_step row k w dot (contents s) (contents s') v r (ap contents same) a }
 
@@ -34,15 +34,15 @@ returns g c =
     let w = g.K.Kind.width in
     let dot = g.K.Kind.product in
     let s = c.args.self.now in
-    let s' = c.is-released.new.self in
+    let s' = c.is_released.new.self in
     let v = c.args.node in
-    let shape = c.in-ok-shape.ensures.answer in
-    let before = c.in-ok-shape.ensures.same in
-    let same = c.is-released.ensures.same ∙ before in
-    let shown = sym (ap (λ (t : Sheet _). is_released t.state) before) ∙ sym c.is-released.ensures.value ∙ c.if-not-is-released.false in
+    let shape = c.in_ok-shape.ensures.answer in
+    let before = c.in_ok-shape.ensures.same in
+    let same = c.is_released.ensures.same ∙ before in
+    let shown = sym (ap (λ (t : Sheet _). is_released t.state) before) ∙ sym c.is_released.ensures.value ∙ c.if-not-is_released.false in
     let e = back (node_rules (facts row (contents s)) v) (released_rule (facts row (contents s)) ∷ []) shape.0 ∙ ap (λ b. first (rule (not b) NotReleased 0 ∷ [])) shown in
     let cells = ap (λ (t : Sheet _). t.numerators.now) same in
     let copied = c.index-self-node.is in
     let a : Reads row s v (Ok (get_or s'.numerators.now v c.index-self-node.result, c.denominator.result)) =
-    (e, record { form = form_of c.in-ok-shape.shape; shape = shape.1.0; node = shape.1.1; cell = cc; over = c.denominator.ensures.value }) in
+    (e, record { form = form_of c.in_ok-shape.shape; shape = shape.1.0; node = shape.1.1; cell = cc; over = c.denominator.ensures.value }) in
     record { outcome = a; same = same; history = read_step row k w dot (contents s) (contents s') v (Ok (get_or s'.numerators.now v c.index-self-node.result, c.denominator.result)) (ap contents same) a }
