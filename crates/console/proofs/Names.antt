@@ -1,5 +1,5 @@
 -- Which call a name stands for.
-use Rattle.std.proofs.Common.{◌≡◌, ℕ, ◌≤◌, cond, List, [], ◌∷◌, length, drop, vec_items, codes, sym, refl, ap, ◌∙◌, subst}
+use Rattle.std.proofs.Common.{◌≡◌, ℕ, cond, List, length, drop, vec_items, codes, sym, refl, ap, ◌∙◌, subst}
 use Rattle.std.specs.Str.{bytes_eq}
 use Rattle.algebra.specs.Row.{Row}
 use Rattle.tree_sheet.specs.declared.call.Call.{Call}

@@ -1,11 +1,11 @@
 -- Pairs of hex digits one by one, and the text of bytes read back.
-use Rattle.std.proofs.Common.{◌≡◌, ℕ, zero, suc, ◌+◌, ◌*◌, ◌/◌, ◌%◌, ◌<◌, ◌≤◌, List, [], ◌∷◌, ◌++◌, length, get_or, take, sym, refl, ap, ◌∙◌, subst, arith}
+use Rattle.std.proofs.Common.{◌≡◌, ℕ, zero, suc, ◌+◌, ◌*◌, ◌/◌, ◌%◌, ◌<◌, List, [], ◌∷◌, ◌++◌, length, get_or, take, sym, refl, ap, ◌∙◌, subst, arith}
 use Rattle.std.specs.Str.Parse.{AllDigits}
 use Rattle.std.specs.Char.{digit_char, digit_value}
 use Rattle.std.proofs.lemmas.Int.Digits.{digits_more}
-use Rattle.std.proofs.lemmas.List.{append_assoc, length-take, take_more, take_all}
+use Rattle.std.proofs.lemmas.List.{append_assoc, length-take, take_more}
 use Rattle.std.proofs.lemmas.Str.{digit_value-digit_char}
-use Rattle.console.specs.Hex.{Hex, ReadsBack, bytes_of, hex_byte, hex_text}
+use Rattle.console.specs.Hex.{ReadsBack, bytes_of, hex_text}
 
 pub each-digit : (ds : List ℕ) (i : ℕ) → AllDigits 16 ds → i < length ds → digit_value (get_or ds i 0) < 16
 each-digit [] i d l = absurd (omega arith)

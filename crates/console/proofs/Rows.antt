@@ -7,7 +7,7 @@ use Rattle.cells.specs.Calls.{carry_limit, replace_rules}
 use Rattle.denial.specs.Rules.{denied, first, rule}
 use Rattle.denial.specs.declared.denial.Denial.{Denial}
 use Rattle.denial.specs.declared.reason.Reason.TheVariants.{BeyondCarryLimit, NoSuchComponent}
-use Rattle.console.specs.Words.{Component, Components, Integer}
+use Rattle.console.specs.Words.{Component, Integer}
 
 -- a component within the limit is not refused
 pub not-refused : (w i : ℕ) (x : ℤ) (e : Denial) → i < w → nat_abs x ≤ carry_limit → first (replace_rules w i x) ≡ Some e → ⊥

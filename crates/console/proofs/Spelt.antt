@@ -1,5 +1,5 @@
 -- What is spelt by the words that a slice holds.
-use Rattle.std.proofs.Common.{◌≡◌, ℕ, ◌-◌, ◌<◌, ◌≤◌, ◌⊎◌, List, [], ◌∷◌, map, length, get_or, take, drop, Ok, Err, Result, sym, refl, ap, ◌∙◌, subst, inl, inr, arith, Bor, MatchResult}
+use Rattle.std.proofs.Common.{◌≡◌, ℕ, ◌-◌, ◌<◌, ◌≤◌, ◌⊎◌, List, [], ◌∷◌, length, get_or, take, drop, Ok, Err, Result, sym, refl, ap, ◌∙◌, subst, inl, inr, arith, Bor, MatchResult}
 use Rattle.std.proofs.lemmas.List.{take_all}
 use Rattle.algebra.specs.Row.{Row}
 use Rattle.tree_sheet.specs.declared.call.Call.{Call}

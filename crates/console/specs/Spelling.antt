@@ -1,5 +1,5 @@
 -- What the words of a line spell.
-use Rattle.std.specs.Prelude.{◌≡◌, ℕ, ◌≤◌, ◌⊎◌, List, [], ◌∷◌, length, drop, vec_items, codes, slice_index_or}
+use Rattle.std.specs.Prelude.{◌≡◌, ℕ, ◌≤◌, ◌⊎◌, List, [], length, drop, vec_items, codes, slice_index_or}
 use Rattle.algebra.specs.Row.{Row}
 use Rattle.tree_sheet.specs.declared.call.Call.{Call}
 use Rattle.tree_sheet.specs.declared.call.Call.TheVariants.{Lay, Enter, EnterWire, Strike, Load, Release, Read, Publish}

@@ -1,8 +1,8 @@
 -- The refusals of taking bytes as a publication, stage by stage, and what is cut out of them.
-use Rattle.std.proofs.Common.{◌≡◌, ℕ, ◌+◌, ◌*◌, ◌<◌, ◌≤◌, Bool, false, not, ◌&&◌, eqb, ltb, leb, List, [], ◌∷◌, ◌++◌, length, take, drop, is_some, Some, None, Ok, Err, Option, Result, sym, refl, ap, ◌∙◌, zero-add, arith}
+use Rattle.std.proofs.Common.{◌≡◌, ℕ, ◌+◌, ◌*◌, ◌<◌, ◌≤◌, Bool, false, not, ◌&&◌, eqb, ltb, leb, List, [], ◌∷◌, ◌++◌, length, is_some, Some, None, Ok, Err, Option, Result, sym, refl, ap, ◌∙◌, zero-add, arith}
 use Rattle.std.specs.Option.{option_or}
 use Rattle.std.proofs.lemmas.Bool.{and_from, le-leb, lt-leb, le-ltb, eq-eqb}
-use Rattle.denial.specs.Rules.{Rule, rule, first, Answers}
+use Rattle.denial.specs.Rules.{rule, first, Answers}
 use Rattle.denial.specs.declared.denial.Denial.{Denial}
 use Rattle.denial.specs.declared.reason.Reason.TheVariants.{FanoutRange, HeightRange, TooManyNodes, TableTooShort, WrongKind, WrongShape, WrongDenominator, WrongLength, NoSuchNode}
 use Rattle.shapes.specs.Denominator.{denominator_of}

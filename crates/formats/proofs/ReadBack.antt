@@ -11,7 +11,7 @@ use Rattle.algebra.proofs.Places.{row_sized}
 use Rattle.cells.specs.Calls.{carry_limit}
 use Rattle.shapes.specs.Tree.{size}
 use Rattle.formats.specs.Bytes.{bytes_at, unsigned, signed_eight, bytes_of, eight_bytes}
-use Rattle.formats.specs.Publication.{publication_header, row_bytes, table_bytes, publication, place_of, publication_length, row_from, published_row, OfCells, Says, ReadsBack}
+use Rattle.formats.specs.Publication.{publication_header, row_bytes, table_bytes, publication, place_of, publication_length, row_from, OfCells, Says, ReadsBack}
 use Rattle.formats.proofs.Blocks.{length-bytes_of, eight-long, block, row-long, row-length, table-length, table-block}
 use Rattle.formats.proofs.Words.{row-tabulate}
 

@@ -1,10 +1,10 @@
 -- A sheet that holds what a history leaves holds, after a call, what the history with that call leaves.
-use Rattle.std.proofs.Common.{◌≡◌, ℕ, ◌<◌, ◌≤◌, Bool, true, false, cond, not, eqb, List, [], ◌∷◌, ◌++◌, map, length, get_or, drop, set, replicate, is_some, Some, None, Option, unwrap_or, sym, refl, ap, ◌∙◌, subst, arith}
+use Rattle.std.proofs.Common.{◌≡◌, ℕ, ◌<◌, ◌≤◌, Bool, true, false, cond, eqb, List, [], ◌∷◌, ◌++◌, length, drop, replicate, is_some, Some, None, Option, unwrap_or, sym, refl, ap, ◌∙◌, subst, arith}
 use Rattle.std.proofs.lemmas.List.{length-set, length-append, length-replicate, length-drop}
 use Rattle.std.proofs.lemmas.Bool.{leb-false, ltb-false, false≢true}
 use Rattle.algebra.specs.Row.{Row, row_at, beyond, Within}
 use Rattle.denial.specs.Rules.{first}
-use Rattle.shapes.specs.Tree.{size, wire}
+use Rattle.shapes.specs.Tree.{size}
 use Rattle.shapes.specs.Laid.{shape_rules, entry_limit}
 use Rattle.inference.proofs.Agree.{X-agree}
 use Rattle.formats.specs.NoisyTable.{table_row, body_of, head_rules, match_rules, body_rules, load_rules as table_rules}
@@ -15,8 +15,8 @@ use Rattle.history.specs.Events.{Asked, lay, enter, enter_wire, strike, load, re
 use Rattle.history.specs.Facts.{Facts, Form, Rooms, nodes, limit, roomy, nodes_of, wires_of, wire_node, limit_of, fanout_of, height_of}
 use Rattle.history.specs.Refusals.{lay_rules, room_rules, laid_rules, enter_rules, enter_wire_rules, strike_rules, load_rules, release_rules, empty_from}
 use Rattle.history.specs.States.{next}
-use Rattle.history.specs.declared.state.Action.TheVariants.{Lay, Change, Release}
-use Rattle.history.specs.declared.state.State.TheVariants.{Unlaid, Filling}
+use Rattle.history.specs.declared.state.Action.TheVariants.{Change}
+use Rattle.history.specs.declared.state.State.TheVariants.{Unlaid}
 use Rattle.history.proofs.Tables.{none_passed, none-front, none-back}
 use Rattle.history.proofs.Shaped.{some_of, none_of, never-some, fitted-so, laid-roomy, room-parts, room-so, wire-below, laid-shapely, laid-change, open-change, laid-release, open-release, next-lay, same-rooms}
 use Rattle.history.proofs.Counts.{same_count, count-entered, count-struck, count-laid, count-loaded, count-row, counts_same, none-empty}

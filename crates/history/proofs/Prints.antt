@@ -1,5 +1,5 @@
 -- A publication of what a sheet holds is the publication of the counts that stand, and nearest to them.
-use Rattle.std.proofs.Common.{◌≡◌, ℕ, zero, suc, ◌+◌, ◌^◌, ◌<◌, ◌≤◌, true, false, List, [], ◌∷◌, ◌++◌, length, take, drop, ℤ, is_some, Some, None, Option, unwrap_or, sym, refl, ap, ◌∙◌, subst, arith}
+use Rattle.std.proofs.Common.{◌≡◌, ℕ, zero, suc, ◌+◌, ◌<◌, ◌≤◌, true, List, [], ◌++◌, length, take, drop, ℤ, is_some, Some, None, Option, unwrap_or, sym, refl, ap, ◌∙◌, subst, arith}
 use Rattle.std.specs.List.{range_with_len, flat_map}
 use Rattle.std.proofs.lemmas.List.{take_at}
 use Rattle.std.proofs.lemmas.Bool.{false≢true}
@@ -12,7 +12,7 @@ use Rattle.shapes.proofs.Multiples.{rule as denominator-rule}
 use Rattle.inference.specs.Nearest.{Nearest}
 use Rattle.inference.specs.Table.{Sized}
 use Rattle.inference.proofs.Final.{tree-nearest, nearest-same}
-use Rattle.formats.specs.Publication.{publication, publication_header, publication_length, row_bytes, table_bytes, denominator_in, published_row, row_from, cut_rules, NodePart, OfCells, Says}
+use Rattle.formats.specs.Publication.{publication, publication_header, row_bytes, published_row, row_from, cut_rules, NodePart, OfCells, Says}
 use Rattle.formats.proofs.Cuts.{cuts_back}
 use Rattle.formats.proofs.ReadBack.{publication-length, reads-back, row-held}
 use Rattle.denial.specs.Rules.{first}

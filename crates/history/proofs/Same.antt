@@ -1,11 +1,9 @@
 -- The same counts on the same shape have one publication.
-use Rattle.std.proofs.Common.{◌≡◌, ℕ, [], Some, unwrap_or, sym, ap, ◌∙◌}
+use Rattle.std.proofs.Common.{◌≡◌, [], Some, unwrap_or, sym, ap, ◌∙◌}
 use mathlib.Core.Path.{fun_ext}
-use Rattle.algebra.specs.Row.{Row}
 use Rattle.formats.specs.Publication.{publication}
 use Rattle.history.specs.Effects.{denominator, solution}
 use Rattle.history.specs.Events.{standing_rows}
-use Rattle.history.specs.Facts.{Form}
 use Rattle.history.specs.Replies.{SameBytes}
 
 pub same_bytes : SameBytes

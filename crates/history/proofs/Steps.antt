@@ -1,20 +1,20 @@
 -- What a call ended with makes a step, for every history that the sheet may have had.
-use Rattle.std.proofs.Common.{◌≡◌, ℕ, ◌<◌, ◌≤◌, Bool, true, false, not, List, [], ◌∷◌, length, get_or, ℤ, Some, None, Ok, Err, Option, Result, sym, refl, ap, ◌∙◌, subst, arith}
+use Rattle.std.proofs.Common.{◌≡◌, ℕ, true, false, List, ◌∷◌, length, ℤ, Some, None, Ok, Err, Option, Result, sym, ap, ◌∙◌, subst, arith}
 use Rattle.std.proofs.lemmas.Bool.{ltb-false, not-false}
-use Rattle.algebra.specs.Row.{Row, row_at, Within, Product}
+use Rattle.algebra.specs.Row.{Row, Within, Product}
 use Rattle.algebra.proofs.Places.{row_read}
 use Rattle.cells.specs.Calls.{carry_limit}
-use Rattle.denial.specs.Rules.{Rule, first, Answers}
+use Rattle.denial.specs.Rules.{first, Answers}
 use Rattle.denial.specs.declared.denial.Denial.{Denial}
 use Rattle.shapes.specs.Laid.{shape_rules}
 use Rattle.shapes.specs.Tree.{size}
 use Rattle.formats.specs.NoisyTable.{load_rules as table_rules}
 use Rattle.history.specs.Contents.{Contents, rooms, laid, facts}
-use Rattle.history.specs.Effects.{Ends, Laid, Entered, Struck, Loaded, Frees, Answered, Written, solution}
-use Rattle.history.specs.Events.{Asked, lay, enter, enter_wire, strike, load, release, read, publish, Event, event, shape_after, standing_rows, released_after, facts_after, Represents}
-use Rattle.history.specs.Facts.{Form, Rooms, Facts, nodes, nodes_of, wire_node, fanout_of, height_of}
+use Rattle.history.specs.Effects.{Ends, Laid, Entered, Struck, Loaded, Frees, Answered, Written}
+use Rattle.history.specs.Events.{Asked, lay, enter, enter_wire, strike, load, release, read, publish, Event, event, released_after, facts_after, Represents}
+use Rattle.history.specs.Facts.{Form, Facts, nodes, nodes_of, wire_node, fanout_of, height_of}
 use Rattle.history.specs.Refusals.{room_rules, lay_rules, laid_rules, enter_rules, enter_wire_rules, strike_rules, load_rules, release_rules, read_rules, publish_rules}
-use Rattle.history.specs.Replies.{Reply, done, refused, seen, printed, told, told_cell, told_bytes, rules, wanted, Fits, Right, Stepped}
+use Rattle.history.specs.Replies.{done, refused, told, told_cell, told_bytes, rules, wanted, Fits, Stepped}
 use Rattle.history.proofs.Tables.{none_passed, none-front, none-back}
 use Rattle.history.proofs.Shaped.{some_of, laid-roomy, room-parts}
 use Rattle.history.proofs.Kept.{facts-agree, denied-kept, read_kept, publish-kept, entered-rooms, struck-rooms, laid-rooms, loaded-rooms, freed-rooms, enter-kept, wire-kept, strike-kept, load_kept, lay-kept, release-kept}

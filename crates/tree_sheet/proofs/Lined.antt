@@ -1,7 +1,7 @@
 -- The line of a node that was read.
-use Rattle.std.proofs.Common.{◌≡◌, ℕ, List, [], ◌∷◌, length, Some, None, Ok, Err, Option, Result, sym, refl, ap, ◌∙◌, subst, arith}
+use Rattle.std.proofs.Common.{◌≡◌, ℕ, List, [], ◌∷◌, length, None, Ok, Err, Option, Result, sym, ap, ◌∙◌, subst, arith}
 use Rattle.std.proofs.lemmas.Bool.{ne_eqb}
-use Rattle.algebra.specs.Row.{Row, row_at}
+use Rattle.algebra.specs.Row.{Row}
 use Rattle.algebra.proofs.Places.{row_read}
 use Rattle.denial.specs.Rules.{rule, first, Answers}
 use Rattle.denial.specs.declared.denial.Denial.{Denial}
@@ -10,13 +10,13 @@ use Rattle.shapes.specs.Denominator.{denominator_of}
 use Rattle.shapes.proofs.Multiples.{rule as denominator-rule}
 use Rattle.listing_lines.specs.Buffer.{buffered, line_rules}
 use Rattle.listing_lines.specs.Lines.{node_line, node_rules}
-use Rattle.history.specs.Contents.{Contents, laid, rooms, facts}
-use Rattle.history.specs.Effects.{Answered, denominator}
+use Rattle.history.specs.Contents.{Contents, rooms, facts}
+use Rattle.history.specs.Effects.{Answered}
 use Rattle.history.specs.Facts.{Form, nodes, fanout_of, height_of}
 use Rattle.history.specs.Refusals.{read_rules, buffer_rule}
 use Rattle.history.proofs.Shaped.{laid-roomy, laid-shapely, room-parts}
 use Rattle.history.proofs.Tables.{back}
-use Rattle.tree_sheet.specs.Lines.{NodeLine, denominator_in, node_line_of}
+use Rattle.tree_sheet.specs.Lines.{NodeLine, node_line_of}
 
 -- a line was put into a buffer
 Put : List ℕ → List ℕ → List ℕ → Result ℕ Denial → Type 0

@@ -1,11 +1,11 @@
 -- How far a run of calls has come.
-use Rattle.std.proofs.Common.{◌≡◌, ℕ, ◌+◌, ◌<◌, ◌≤◌, List, [], ◌∷◌, ◌++◌, map, length, get_or, take, ℤ, sym, refl, ap, ◌∙◌, subst}
+use Rattle.std.proofs.Common.{◌≡◌, ℕ, ◌+◌, ◌<◌, ◌≤◌, List, [], ◌∷◌, ◌++◌, map, length, get_or, take, ℤ, sym, ap, ◌∙◌, subst}
 use Rattle.std.proofs.lemmas.List.{map_more, map_push, take_all}
 use Rattle.algebra.specs.Row.{Row}
 use Rattle.history.specs.Contents.{Contents, rooms}
-use Rattle.history.specs.Events.{Asked, Event, event, Represents}
+use Rattle.history.specs.Events.{Asked, Event, Represents}
 use Rattle.history.specs.Facts.{Rooms}
-use Rattle.history.specs.Replies.{Reply, accepts, Right}
+use Rattle.history.specs.Replies.{Reply, Right}
 use Rattle.history.specs.Runs.{Faithful, past}
 use Rattle.history.proofs.Runs.{faithful-more, past_more}
 use Rattle.tree_sheet.specs.Calls.{Carries}

@@ -1,5 +1,5 @@
 -- How each call on a tree sheet s ends, with the answer r, and s' after it. Cells mean rows by `row`; the kind has number k and width w.
-use Rattle.std.specs.Prelude.{◌≡◌, ℕ, List, length, ℤ, Result}
+use Rattle.std.specs.Prelude.{ℕ, List, length, ℤ, Result}
 use Rattle.algebra.specs.Row.{Row}
 use Rattle.denial.specs.Rules.{Answers}
 use Rattle.denial.specs.declared.denial.Denial.{Denial}

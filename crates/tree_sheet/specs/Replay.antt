@@ -1,11 +1,8 @@
 -- Calls and outcomes as a history has them, and what a run of calls leaves in the slices that were lent to it.
-use Rattle.std.specs.Prelude.{ℕ, List, [], map, length, ℤ, Ok, Err, vec_items, Result}
+use Rattle.std.specs.Prelude.{ℕ, List, vec_items}
 use Rattle.algebra.specs.Row.{Row}
-use Rattle.history.specs.Contents.{Contents}
 use Rattle.history.specs.Events.{Asked, Event, lay, enter, enter_wire, strike, load, release, read, publish, Represents}
-use Rattle.history.specs.Facts.{Rooms}
 use Rattle.history.specs.Replies.{Reply, done, refused, seen, printed}
-use Rattle.history.specs.Runs.{past}
 use Rattle.history.specs.declared.state.State.{State}
 use Rattle.tree_sheet.specs.declared.call.Call.{Call}
 use Rattle.tree_sheet.specs.declared.call.Call.TheVariants.{Lay, Enter, EnterWire, Strike, Load, Release, Read, Publish}

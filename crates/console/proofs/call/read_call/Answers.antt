@@ -1,4 +1,4 @@
-use Rattle.std.proofs.Common.{◌≡◌, ◌⊎◌, sym, ap, ◌∙◌, subst, inl, inr, arith}
+use Rattle.std.proofs.Common.{sym, ap, ◌∙◌, inl, inr, arith}
 use Rattle.std.proofs.lemmas.Result.{err_from_is_err_and}
 use Rattle.tree_sheet.specs.declared.call.Call.TheVariants.{Lay, Enter, EnterWire, Strike, Load, Release, Read, Publish}
 use Rattle.console.proofs.Names.{enter, lay, load, nameless, publish, read, release, strike, verb, wire}

@@ -1,4 +1,4 @@
-use Rattle.std.proofs.Common.{◌≡◌, ℕ, ◌<◌, [], get_or}
+use Rattle.std.proofs.Common.{ℕ, ◌<◌, [], get_or}
 use Rattle.algebra.specs.Row.{part}
 use Rattle.console.specs.Words.{Component, texts}
 use Rattle.console.proofs.word.cell.Given as goal

@@ -2,7 +2,7 @@ use Rattle.std.proofs.Common.{◌≡◌, ℕ, min, List, length, take, replicate
 use Rattle.std.specs.Vec.{with_items}
 use Rattle.std.proofs.lemmas.List.{with_items_is, length-replicate}
 use Rattle.history.specs.Events.{publish}
-use Rattle.history.specs.Replies.{Stepped, printed, refused}
+use Rattle.history.specs.Replies.{Stepped, printed}
 use Rattle.tree_sheet.specs.Held.{contents}
 use Rattle.tree_sheet.proofs.Wider.{wider}
 use Rattle.tree_sheet.proofs.runs.publication.Goals as goal

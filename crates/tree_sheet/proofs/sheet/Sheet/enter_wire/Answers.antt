@@ -1,7 +1,5 @@
-use Rattle.std.proofs.Common.{◌≡◌, ℕ, ◌-◌, ◌^◌, ◌<◌, false, leb, Some, None, Ok, Err, Option, sym, refl, ap, ◌∙◌, subst, arith}
+use Rattle.std.proofs.Common.{◌≡◌, ℕ, Ok, Err, Option, sym, ap, ◌∙◌, subst, arith}
 use Rattle.std.proofs.lemmas.Result.{err_from_is_err_and}
-use Rattle.denial.specs.Rules.{first}
-use Rattle.shapes.specs.Tree.{wire}
 use Rattle.history.specs.Contents.{facts, form_of, laid}
 use Rattle.history.specs.Effects.{Entered}
 use Rattle.history.specs.Facts.{Form, wire_node}

@@ -1,6 +1,5 @@
 use Rattle.std.proofs.Common.{◌≡◌, map, is_some, sym, ap, ◌∙◌, subst, arith}
 use Rattle.std.specs.List.{range_with_len}
-use Rattle.shapes.specs.Laid.{entry_limit}
 use Rattle.shapes.specs.Tree.{size}
 use Rattle.history.specs.Contents.{count_at}
 use Rattle.history.specs.Refusals.{empty_from}

@@ -1,9 +1,8 @@
-use Rattle.std.proofs.Common.{ℕ, refl, ap, ◌∙◌, rules}
+use Rattle.std.proofs.Common.{ℕ, refl, ap, ◌∙◌}
 use Rattle.std.proofs.lemmas.Nat.Gcd.{dvd_antisymm}
 use Rattle.algebra.specs.Row.{row_at}
 use Rattle.inference.specs.Formulas.{X}
 use Rattle.shapes.proofs.Multiples.{rule}
-use Rattle.tree_sheet.proofs.Lending.{lent_same}
 use Rattle.tree_sheet.proofs.sheet.Sheet.solve.Goals as goal
 
 pub returns : goal.returns

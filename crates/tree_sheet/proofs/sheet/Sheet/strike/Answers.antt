@@ -1,4 +1,4 @@
-use Rattle.std.proofs.Common.{◌≡◌, not, [], ◌∷◌, get_or, is_some, None, Ok, Err, sym, refl, ap, ◌∙◌, subst}
+use Rattle.std.proofs.Common.{not, [], ◌∷◌, get_or, is_some, None, Ok, Err, sym, ap, ◌∙◌, subst}
 use Rattle.std.proofs.lemmas.Result.{err_from_is_err_and}
 use Rattle.denial.specs.Rules.{rule, first}
 use Rattle.denial.specs.declared.reason.Reason.TheVariants.{NodeEmpty}
