@@ -3,11 +3,11 @@ use Rattle.std.specs.Prelude.{ℕ, zero, suc, ◌+◌, ◌*◌, ◌/◌, ◌%◌
 use Rattle.std.specs.Int.{w32, w64}
 use Rattle.std.proofs.Common.{to_z, of_z}
 use Rattle.std.specs.Int.Digits.{number_from_digits}
-use Rattle.std.specs.List.{AllByRecursion as All}
+use Rattle.std.specs.List.{AllByRecursion}
 
 -- Numbers that are bytes.
 abbrev pub AreBytes : List ℕ → Type 0
-AreBytes bytes = All (λ x. x < 256) bytes
+AreBytes bytes = AllByRecursion (λ x. x < 256) bytes
 
 -- The n bytes from an offset on.
 abbrev pub bytes_at : List ℕ → ℕ → ℕ → List ℕ
