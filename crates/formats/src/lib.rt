@@ -1,4 +1,4 @@
-// The byte formats: reading a noisy table, writing a tree publication, and cutting one node out of it.
+// The byte formats: reading a noisy table or loading it onto a shape, writing a tree publication, and cutting one node out of it.
 #![tactic(auto)]
 
 mod body;

@@ -1,6 +1,7 @@
 // Tables of pairs, of fan-out 2 and height 2.
-use crate::{cut, read_table, write_publication};
+use crate::{cut, load_table, read_table, write_publication};
 use cells::{Kind, Pair};
+use shapes::Shape;
 use std::test::Fail;
 
 // The header, then 9 and -2, 1,000,000 and -1,000,000, 256 and 0.
@@ -56,6 +57,33 @@ fn refuses_headers(rt: HostRuntime) {
     wide[7] = 4;
     assert_eq!(rt; refusal(&wide, &mut cells), (13, 0));
     assert_eq!(rt; refusal(&GOOD, &mut cells), (14, 1));
+}
+
+// The number and the place of a refusal to load the table with one byte changed onto the shape of fan-out 2 and height 2.
+fn load_refusal_with(at: usize, byte: u8) -> (u8, u64) {
+    let mut table = GOOD;
+    if at < table.len() {
+        table[at] = byte;
+    }
+    let mut cells = [Pair::zero(); 4];
+    let loaded = match Shape::new(2, 2) {
+        Ok(shape) => load_table(&table, shape, &mut cells),
+        Err(denial) => Err(denial),
+    };
+    match loaded {
+        Ok(()) => (0, 0),
+        Err(denial) => (denial.reason.number(), denial.place),
+    }
+}
+
+#[test]
+fn loads_one_shape(rt: HostRuntime) {
+    assert_eq!(rt; load_refusal_with(6, 2), (0, 0));
+    assert_eq!(rt; load_refusal_with(5, 1), (24, 5));
+    assert_eq!(rt; load_refusal_with(6, 3), (25, 6));
+    assert_eq!(rt; load_refusal_with(6, 17), (25, 6));
+    assert_eq!(rt; load_refusal_with(7, 0), (25, 7));
+    assert_eq!(rt; load_refusal_with(19, 0x41), (27, 16));
 }
 
 #[test]

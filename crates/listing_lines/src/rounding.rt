@@ -28,8 +28,8 @@ fn nearest_size(size: u64, denominator: u64) -> u64
 }
 
 fn with_sign(negative: bool, size: u64) -> i64
-    requires size_bound { size ≤ 2 ^ 63 }
-    requires size_bound_2 { negative ≡ false → size < 2 ^ 63 }
+    requires fits { size ≤ 2 ^ 63 }
+    requires fits_unsigned { negative ≡ false → size < 2 ^ 63 }
     ensures { result ≡ (if negative then neg_ℤ (pos size) else pos size) }
 {
     let size = size as i128;

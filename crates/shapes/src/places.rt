@@ -1,5 +1,5 @@
 // Where the nodes of a shape lie.
-ghost use Rattle.std.specs.Prelude.{◌≡◌, ℕ, ◌-◌, ◌^◌, ◌<◌, ◌≤◌, ◌&&◌, ltb, if◌then◌else◌, Some, None, nat_le, nat_lt};
+ghost use Rattle.std.specs.Prelude.{◌≡◌, ℕ, ◌-◌, ◌^◌, ◌<◌, ◌≤◌, ◌&&◌, if◌then◌else◌, Some, None, nat_le, nat_lt};
 ghost use Rattle.shapes.specs.Tree.{size, child, parent, height, wire, Heights};
 
 use crate::laid::count;
@@ -38,7 +38,7 @@ impl Shape {
 
     // Child number j, from 0, of a node, if it has one.
     pub fn child(self, node: usize, j: usize) -> Option<usize>
-        ensures { result ≡ (if ltb node (size self.fanout (self.height - 1)) && nat_lt j self.fanout then Some (child self.fanout node j) else None) }
+        ensures { result ≡ (if nat_lt node (size self.fanout (self.height - 1)) && nat_lt j self.fanout then Some (child self.fanout node j) else None) }
     {
         if node < self.size(self.height - 1) && j < self.fanout {
             Some(self.fanout * node + 1 + j)
@@ -60,7 +60,7 @@ impl Shape {
 
     // The height of a node, the lowest level being tried first.
     pub fn height_of(self, node: usize) -> Option<usize>
-        ensures value { result ≡ (if ltb node (size self.fanout self.height) then Some (height self.fanout self.height node) else None) }
+        ensures value { result ≡ (if nat_lt node (size self.fanout self.height) then Some (height self.fanout self.height node) else None) }
         ensures law { Heights self.fanout self.height (height self.fanout self.height) }
     {
         if node >= self.nodes() {
@@ -75,7 +75,7 @@ impl Shape {
 
     // The node of a wire: the wires are the leaves, from left to right.
     pub fn wire(self, j: usize) -> Option<usize>
-        ensures { result ≡ (if ltb j (self.fanout ^ (self.height - 1)) then Some (wire self.fanout self.height j) else None) }
+        ensures { result ≡ (if nat_lt j (self.fanout ^ (self.height - 1)) then Some (wire self.fanout self.height j) else None) }
     {
         if j < self.power(self.height - 1) {
             Some(self.size(self.height - 1) + j)

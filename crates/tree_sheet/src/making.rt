@@ -16,7 +16,7 @@ impl<'a, K: Kind> Sheet<'a, K> {
         numerators: &'a mut [K],
         work: &'a mut [K],
     ) -> Self
-        ensures holds { contents result ≡ record { noisy = noisy.entry.now; marks = marks.old; numerators = numerators.old; work = work.old; state = Unlaid } }
+        ensures holds { contents result ≡ record { noisy = noisy.old; marks = marks.old; numerators = numerators.old; work = work.old; state = Unlaid } }
         ensures history { Represents K.Kind.row K.width [] (contents result) }
         ensures lent { (result.noisy.ghost_name ≡ noisy.entry.ghost_name) × (result.marks.ghost_name ≡ marks.entry.ghost_name) × (result.numerators.ghost_name ≡ numerators.entry.ghost_name) × (result.work.ghost_name ≡ work.entry.ghost_name) }
     {

@@ -15,7 +15,7 @@ use denial::{Denial, Reason};
 use formats::write_publication;
 use shapes::Shape;
 
-// Writes the numerators of a shape into a buffer.
+// Writes a publication of a shape's numerators, which are lent for writing and stay.
 fn write_from<K: Kind>(shape: Shape, numerators: &mut [K], out: &mut [u8]) -> Result<usize, Denial>
     ensures answer { Answers (write_rules (length numerators.old) (length out.old) K.width (size shape.fanout shape.height)) (λ n. n ≡ publication_length K.width (size shape.fanout shape.height)) result }
     ensures written { MatchResult result (λ n. out.new ≡ publication K.number shape.fanout shape.height (denominator_of shape.fanout shape.height) (row_at K.Kind.row numerators.old) ++ drop n out.old) (λ _. out.new ≡ out.old) }
@@ -41,7 +41,7 @@ impl<'a, K: Kind> Sheet<'a, K> {
         Ok((self.numerators[node as usize], shape.denominator()))
     }
 
-    // Writes the numerators of a shape into a buffer.
+    // The same from the sheet's own numerators.
     fn write_numerators(&mut self, shape: Shape, out: &mut [u8]) -> Result<usize, Denial>
         ensures answer { Answers (write_rules (length self.old.numerators.now) (length out.old) K.width (size shape.fanout shape.height)) (λ n. n ≡ publication_length K.width (size shape.fanout shape.height)) result }
         ensures written { MatchResult result (λ n. out.new ≡ publication K.number shape.fanout shape.height (denominator_of shape.fanout shape.height) (row_at K.Kind.row self.old.numerators.now) ++ drop n out.old) (λ _. out.new ≡ out.old) }

@@ -86,7 +86,7 @@ pub fn replay<K: Kind>(
     work: &mut [K],
     calls: &[Call<K>],
 ) -> Result<Vec<Outcome<K>>, AllocError>
-    ensures run { IfOk result (λ log. Faithful K.number K.width K.product (record { noisy = length noisy.entry.now; marks = length marks.old; numerators = length numerators.old; work = length work.old }) [] (map (asked K.Kind.row) calls.now) (map (reply K.Kind.row) log.items)) }
+    ensures run { IfOk result (λ log. Faithful K.number K.width K.product (record { noisy = length noisy.old; marks = length marks.old; numerators = length numerators.old; work = length work.old }) [] (map (asked K.Kind.row) calls.now) (map (reply K.Kind.row) log.items)) }
     ensures slices { MatchResult result (λ log. Leaves K.Kind.row K.width (past [] (map (asked K.Kind.row) calls.now) (map (reply K.Kind.row) log.items)) noisy.new marks.new numerators.new work.new) (λ _. (h : List Event) × Leaves K.Kind.row K.width h noisy.new marks.new numerators.new work.new) }
 {
     let mut sheet = Sheet {
