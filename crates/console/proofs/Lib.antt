@@ -3,3 +3,7 @@ pub mod Pairs
 pub mod Rows
 pub mod Spelt
 pub mod Texts
+pub mod LineWords
+pub mod Said
+pub mod Calls
+pub mod Scripts

@@ -1,10 +1,11 @@
 -- What is spelt by the words that a slice holds.
-use Rattle.std.proofs.Common.{◌≡◌, ℕ, ◌-◌, ◌<◌, ◌≤◌, ◌⊎◌, List, [], ◌∷◌, length, get_or, take, drop, Ok, Err, Result, sym, refl, ap, ◌∙◌, subst, inl, inr, arith, Bor, MatchResult}
+use Rattle.std.proofs.Common.{◌≡◌, ℕ, suc, ◌-◌, ◌<◌, ◌≤◌, ◌⊎◌, List, [], ◌∷◌, length, get_or, take, drop, Ok, Err, Result, sym, refl, ap, ◌∙◌, subst, inl, inr, arith, ⊎_elim, Bor, MatchResult}
 use Rattle.std.proofs.lemmas.List.{take_all}
-use Rattle.algebra.specs.Row.{Row}
-use Rattle.tree_sheet.specs.declared.call.Call.{Call}
+use Rattle.history.specs.Events.{Asked}
 use Rattle.console.specs.Hex.{Hex, bytes_of}
-use Rattle.console.specs.Spelling.{Argued, Bytes, One, Spells, at, name_of}
+use Rattle.console.specs.Spelling.{Argued, Bytes, FourLengths, Long, One, Spells, SpellsTree, at, name_of}
+use Rattle.console.specs.declared.script.Lengths.{Lengths}
+use Rattle.console.specs.declared.script.Tree.{Tree}
 use Rattle.console.specs.Words.{Number, texts}
 use Rattle.console.specs.declared.mistake.Mistake.{Mistake}
 use Rattle.console.specs.declared.mistake.Mistake.TheVariants.{NoHex, NoMemory, NoNumber}
@@ -50,16 +51,24 @@ bytes_read items ws d (Err m) l (inl e) = inl e
 bytes_read items ws d (Err m) l (inr h) = inr (λ bs b. h.1 (subst Hex (texts-at ws 0 d (omega arith)) b.1))
 
 -- a call
-module _ {K : Type 0} (w : ℕ) (row : K → Row) (ws : List (Bor (List ℕ))) (d : Bor (List ℕ)) (some : 1 ≤ length ws) where
-  pub spelt : (call : Call K) → (get_or ws 0 d).now ≡ name_of call → Argued w row (texts (rest ws)) call → Spells w row (texts ws) call
+module _ (w : ℕ) (ws : List (Bor (List ℕ))) (d : Bor (List ℕ)) (some : 1 ≤ length ws) where
+  pub spelt : (call : Asked) → (get_or ws 0 d).now ≡ name_of call → Argued w (texts (rest ws)) call → Spells w (texts ws) call
   spelt call e a = record {
     some = omega (arith, texts-length ws);
     name = texts-at ws 0 d some ∙ e;
-    arguments = subst (λ (args : List (List ℕ)). Argued w row args call) (texts-rest ws) a;
+    arguments = subst (λ (args : List (List ℕ)). Argued w args call) (texts-rest ws) a;
   }
 
-  pub misspelt : (v : Verb) → verb (get_or ws 0 d).now ≡ v → Refuses w (texts (rest ws)) v → (call : Call K) → Spells w row (texts ws) call → ⊥
-  misspelt v e never = not-spelt w row (texts ws) v (ap verb (texts-at ws 0 d some) ∙ e) (subst (λ (args : List (List ℕ)). Refuses w args v) (texts-rest ws) never)
+  pub misspelt : (v : Verb) → verb (get_or ws 0 d).now ≡ v → Refuses w (texts (rest ws)) v → (call : Asked) → Spells w (texts ws) call → ⊥
+  misspelt v e never = not-spelt w (texts ws) v (ap verb (texts-at ws 0 d some) ∙ e) (subst (λ (args : List (List ℕ)). Refuses w args v) (texts-rest ws) never)
+
+-- a first line of which one word is no length
+module _ (ws : List (Bor (List ℕ))) (name : List ℕ) where
+  pub long-refused : (i : ℕ) (d : Bor (List ℕ)) → i < length ws → ((n : ℕ) → Long (get_or ws i d).now n → ⊥) → (n : ℕ) → Long (at (name ∷ texts ws) (suc i)) n → ⊥
+  long-refused i d l never n h = never n (subst (λ (t : List ℕ). Long t n) (texts-at ws i d l) h)
+
+  pub lengths-refused : length ws ≡ 5 → ((l : Lengths) → FourLengths (name ∷ texts ws) l → ⊥) → (tree : Tree) → SpellsTree (name ∷ texts ws) tree → ⊥
+  lengths-refused five never tree s = ⊎_elim (λ p. absurd (omega (arith, texts-length ws, p.0))) (λ p. never tree.lengths p.1) s.lengths
 
 -- the exit of a `?`
 pub refusal : {A : Type 0} (P : A → Type 0) (Q : Mistake → Type 0) (r : Result A Mistake) (m : Mistake) → r ≡ Err m → Q m → MatchResult r P Q

@@ -4,3 +4,4 @@ pub mod Mistakes
 pub mod Spelling
 pub mod Words
 pub mod Play
+pub mod Script

@@ -1,12 +1,11 @@
 -- What is printed, as codes of characters: 32 is a space, 10 a line feed.
-use Rattle.std.specs.Prelude.{ℕ, List, [], ◌∷◌, ◌++◌, ℤ, vec_items, codes, decimal}
+use Rattle.std.specs.Prelude.{ℕ, List, [], ◌∷◌, ◌++◌, ℤ, codes, decimal}
 use Rattle.std.specs.List.{flat_map}
 use Rattle.std.specs.Fmt.{signed_decimal}
 use Rattle.algebra.specs.Row.{Row}
 use Rattle.denial.specs.Numbers.{number}
 use Rattle.denial.specs.declared.denial.Denial.{Denial}
-use Rattle.tree_sheet.specs.declared.call.Outcome.{Outcome}
-use Rattle.tree_sheet.specs.declared.call.Outcome.TheVariants.{Done, Denied, Cell, Publication}
+use Rattle.history.specs.Replies.{Reply, done, refused, seen, printed}
 use Rattle.console.specs.Hex.{hex_text}
 
 -- A single space parts a number from what stands before it.
@@ -28,9 +27,9 @@ cell_line row d = codes "ok" ++ (flat_map signed_field row ++ (field d ++ line_f
 abbrev pub bytes_line : List ℕ → List ℕ
 bytes_line bytes = codes "ok " ++ (hex_text bytes ++ line_feed)
 
--- The line of an outcome, where `row` says what a cell means.
-abbrev pub outcome_line : {K : Type 0} → (K → Row) → Outcome K → List ℕ
-outcome_line row Done = codes "ok" ++ line_feed
-outcome_line row (Denied e) = denial_line e
-outcome_line row (Cell c d) = cell_line (row c) d
-outcome_line row (Publication bytes) = bytes_line (vec_items bytes)
+-- The line of what a call answers.
+abbrev pub reply_line : Reply → List ℕ
+reply_line done = codes "ok" ++ line_feed
+reply_line (refused e) = denial_line e
+reply_line (seen row d) = cell_line row d
+reply_line (printed bytes) = bytes_line bytes

@@ -1,8 +1,7 @@
 -- What the words of a line spell.
-use Rattle.std.specs.Prelude.{◌≡◌, ℕ, ◌≤◌, ◌⊎◌, List, [], length, drop, vec_items, codes, slice_index_or}
+use Rattle.std.specs.Prelude.{◌≡◌, ℕ, ◌≤◌, ◌⊎◌, List, [], length, drop, codes, slice_index_or}
 use Rattle.algebra.specs.Row.{Row}
-use Rattle.tree_sheet.specs.declared.call.Call.{Call}
-use Rattle.tree_sheet.specs.declared.call.Call.TheVariants.{Lay, Enter, EnterWire, Strike, Load, Release, Read, Publish}
+use Rattle.history.specs.Events.{Asked, lay, enter, enter_wire, strike, load, release, read, publish}
 use Rattle.console.specs.Hex.{Hex, bytes_of}
 use Rattle.console.specs.Words.{Components, Number}
 use Rattle.console.specs.declared.script.Cells.{Cells}
@@ -29,32 +28,32 @@ Placed w args n row = (1 ≤ length args) × Number 32 (at args 0) n × Componen
 abbrev pub Bytes : List (List ℕ) → List ℕ → Type 0
 Bytes args bytes = (length args ≤ 1) × Hex (at args 0) × (bytes ≡ bytes_of (at args 0))
 
-abbrev pub name_of : {K : Type 0} → Call K → List ℕ
-name_of (Lay fanout height) = codes "lay"
-name_of (Enter node cell) = codes "enter"
-name_of (EnterWire wire cell) = codes "wire"
-name_of (Strike node) = codes "strike"
-name_of (Load table) = codes "load"
-name_of Release = codes "release"
-name_of (Read node) = codes "read"
-name_of (Publish room) = codes "publish"
+abbrev pub name_of : Asked → List ℕ
+name_of (lay fanout height) = codes "lay"
+name_of (enter node row) = codes "enter"
+name_of (enter_wire wire row) = codes "wire"
+name_of (strike node) = codes "strike"
+name_of (load table) = codes "load"
+name_of release = codes "release"
+name_of (read node) = codes "read"
+name_of (publish room) = codes "publish"
 
--- The words after a call's name write its arguments.
-abbrev pub Argued : {K : Type 0} → ℕ → (K → Row) → List (List ℕ) → Call K → Type 0
-Argued w row args (Lay fanout height) = Two args fanout height
-Argued w row args (Enter node cell) = Placed w args node (row cell)
-Argued w row args (EnterWire wire cell) = Placed w args wire (row cell)
-Argued w row args (Strike node) = One 32 args node
-Argued w row args (Load table) = Bytes args (vec_items table)
-Argued w row args Release = length args ≡ 0
-Argued w row args (Read node) = One 32 args node
-Argued w row args (Publish room) = One 64 args room
+-- The words after a call's name write its arguments, where rows have width w.
+abbrev pub Argued : ℕ → List (List ℕ) → Asked → Type 0
+Argued w args (lay fanout height) = Two args fanout height
+Argued w args (enter node row) = Placed w args node row
+Argued w args (enter_wire wire row) = Placed w args wire row
+Argued w args (strike node) = One 32 args node
+Argued w args (load table) = Bytes args table
+Argued w args release = length args ≡ 0
+Argued w args (read node) = One 32 args node
+Argued w args (publish room) = One 64 args room
 
--- Words spell a call, where cells have w components and `row` says what a cell means.
-pub record Spells {K : Type 0} (w : ℕ) (row : K → Row) (words : List (List ℕ)) (call : Call K) : Type 0 where
+-- Words spell a call.
+pub record Spells (w : ℕ) (words : List (List ℕ)) (call : Asked) : Type 0 where
   pub some : 1 ≤ length words
   pub name : at words 0 ≡ name_of call
-  pub arguments : Argued w row (drop 1 words) call
+  pub arguments : Argued w (drop 1 words) call
 
 -- A kind's number.
 abbrev pub kind_word : Cells → List ℕ

@@ -4,7 +4,8 @@ ghost use Rattle.algebra.specs.Row.{Row};
 ghost use Rattle.console.specs.Spelling.{Bytes, One, Placed, Spells, Two};
 ghost use Rattle.console.specs.Words.{texts};
 ghost use Rattle.console.specs.declared.mistake.Mistake.TheVariants.{NoMemory};
-ghost use Rattle.tree_sheet.specs.declared.call.Call.{Call as Spelt};
+ghost use Rattle.history.specs.Events.{Asked};
+ghost use Rattle.tree_sheet.specs.Replay.{asked};
 
 use crate::hex::read_hex;
 use crate::mistake::Mistake;
@@ -71,7 +72,7 @@ fn bytes(heap: Global, arguments: &[&str]) -> Result<Vec<u8>, Mistake>
 }
 
 pub fn read_call<K: Kind>(heap: Global, words: &[&str]) -> Result<Call<K>, Mistake>
-    ensures { MatchResult result (λ call. Spells K.width K.Kind.row (texts words.now) call) (λ m. (m ≡ NoMemory) ⊎ ((call : Spelt K) → Spells K.width K.Kind.row (texts words.now) call → ⊥)) }
+    ensures { MatchResult result (λ call. Spells K.width (texts words.now) (asked K.Kind.row call)) (λ m. (m ≡ NoMemory) ⊎ ((call : Asked) → Spells K.width (texts words.now) call → ⊥)) }
 {
     if words.len() < 1 {
         return Err(Mistake::NoCall);

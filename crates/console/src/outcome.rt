@@ -1,7 +1,8 @@
 // The line of an outcome.
-ghost use Rattle.std.specs.Prelude.{◌≡◌, IfOk, string_bytes};
+ghost use Rattle.std.specs.Prelude.{◌≡◌, map, IfOk, string_bytes};
+ghost use Rattle.tree_sheet.specs.Replay.{reply};
 ghost use Rattle.std.specs.List.{flat_map};
-ghost use Rattle.console.specs.Lines.{bytes_line, cell_line, denial_line, outcome_line};
+ghost use Rattle.console.specs.Lines.{bytes_line, cell_line, denial_line, reply_line};
 
 use crate::hex::add_hex;
 use cells::Kind;
@@ -39,7 +40,7 @@ fn bytes_text(heap: Global, bytes: &[u8]) -> Result<String, AllocError>
 }
 
 pub fn outcome_text<K: Kind>(heap: Global, outcome: &Outcome<K>) -> Result<String, AllocError>
-    ensures { IfOk result (λ t. string_bytes t ≡ outcome_line K.Kind.row outcome.now) }
+    ensures { IfOk result (λ t. string_bytes t ≡ reply_line (reply K.Kind.row outcome.now)) }
 {
     match outcome {
         Outcome::Done => String::from_str(heap, "ok\n"),
@@ -51,7 +52,7 @@ pub fn outcome_text<K: Kind>(heap: Global, outcome: &Outcome<K>) -> Result<Strin
 
 // The lines of all outcomes, in their order.
 pub fn outcomes_text<K: Kind>(heap: Global, outcomes: &[Outcome<K>]) -> Result<String, AllocError>
-    ensures { IfOk result (λ t. string_bytes t ≡ flat_map (outcome_line K.Kind.row) outcomes.now) }
+    ensures { IfOk result (λ t. string_bytes t ≡ flat_map reply_line (map (reply K.Kind.row) outcomes.now)) }
 {
     let mut text = String::new(heap);
     for outcome in outcomes {

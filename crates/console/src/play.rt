@@ -1,11 +1,16 @@
 // A script is read, its calls are made, and their outcomes are told.
-ghost use Rattle.std.specs.Prelude.{◌≡◌, ◌<◌, length, IfOk, string_bytes};
+ghost use Rattle.std.specs.Prelude.{◌≡◌, ◌⊎◌, ℕ, ◌<◌, List, drop, length, map, IfOk, MatchResult, string_bytes};
+ghost use Rattle.history.specs.Events.{Asked};
+ghost use Rattle.tree_sheet.specs.Replay.{asked};
 ghost use Rattle.console.specs.Mistakes.{line_of};
-ghost use Rattle.console.specs.Play.{Played};
+ghost use Rattle.console.specs.Play.{Follows, Played, Plays, WantsMemory};
+ghost use Rattle.console.specs.Script.{said, EachSpells};
+ghost use Rattle.console.specs.Words.{texts};
+ghost use Rattle.console.specs.declared.play.Stop.TheVariants.{Wrong, OutOfMemory, Io};
 
 use crate::mistake::{Mistake, Trouble};
 use crate::outcome::outcomes_text;
-use crate::script::{Cells, Lengths, calls_after, first_line};
+use crate::script::{Cells, Lengths, calls_after, first_line, lines_of};
 use cells::{Four, Kind, Pair, Single};
 use std::alloc::{AllocError, Global};
 use std::io;
@@ -15,23 +20,29 @@ use tree_sheet::{Call, replay, zero_cells};
 #[derive(Debug, Drop)]
 pub enum Stop {
     Wrong(Trouble),
-    NoMemory,
+    OutOfMemory,
     Io,
 }
 
 impl From<Trouble> for Stop {
+    ghost from_gives = { λ t r. r ≡ Wrong t };
+
     fn from(trouble: Trouble) -> Stop {
         Stop::Wrong(trouble)
     }
 }
 
 impl From<AllocError> for Stop {
+    ghost from_gives = { λ _ r. r ≡ OutOfMemory };
+
     fn from(_error: AllocError) -> Stop {
-        Stop::NoMemory
+        Stop::OutOfMemory
     }
 }
 
 impl From<io::Error> for Stop {
+    ghost from_gives = { λ _ r. r ≡ Io };
+
     fn from(_error: io::Error) -> Stop {
         Stop::Io
     }
@@ -43,7 +54,7 @@ fn sheet_text<K: Kind>(
     lengths: Lengths,
     calls: &[Call<K>],
 ) -> Result<String, AllocError>
-    ensures { IfOk result (λ t. Played K.Kind.row K.number K.width K.product lengths calls.now (string_bytes t)) }
+    ensures { IfOk result (λ t. Played K.number K.width K.product lengths (map (asked K.Kind.row) calls.now) (string_bytes t)) }
 {
     let mut noisy = zero_cells::<K>(heap, lengths.noisy)?;
     let mut marks = Vec::from_elem(heap, 0u8, lengths.marks)?;
@@ -62,11 +73,13 @@ fn sheet_text<K: Kind>(
 
 fn play_tree<K: Kind>(
     heap: Global,
-    text: &str,
+    lines: &[&str],
     first: usize,
     lengths: Lengths,
-) -> Result<String, Stop> {
-    let calls = calls_after::<K>(heap, text, first)?;
+) -> Result<String, Stop>
+    ensures { MatchResult result (λ t. Follows K.number K.width K.product lengths (said (drop first (texts lines.now))) (string_bytes t)) (λ stop. WantsMemory stop ⊎ ((calls : List Asked) → EachSpells K.width (said (drop first (texts lines.now))) calls → ⊥)) }
+{
+    let calls = calls_after::<K>(heap, lines, first)?;
     let lines = sheet_text(heap, lengths, calls.as_slice())?;
     Ok(lines)
 }
@@ -85,7 +98,10 @@ fn line_at(text: &[u8], place: usize) -> usize
     line
 }
 
-pub fn play_script(heap: Global, script: &[u8]) -> Result<String, Stop> {
+// What is printed for a script, or why it is not played: for want of memory, or since nothing is what is printed for it.
+pub fn play_script(heap: Global, script: &[u8]) -> Result<String, Stop>
+    ensures { MatchResult result (λ t. Plays script.now (string_bytes t)) (λ stop. WantsMemory stop ⊎ ((text : List ℕ) → Plays script.now text → ⊥)) }
+{
     let text = match std::str::from_utf8(script) {
         Ok(text) => text,
         Err(error) => {
@@ -95,10 +111,12 @@ pub fn play_script(heap: Global, script: &[u8]) -> Result<String, Stop> {
             }));
         }
     };
-    let (first, tree) = first_line(heap, text)?;
+    let all = lines_of(heap, text)?;
+    let lines = all.as_slice();
+    let (first, tree) = first_line(heap, lines)?;
     match tree.cells {
-        Cells::Single => play_tree::<Single>(heap, text, first, tree.lengths),
-        Cells::Pair => play_tree::<Pair>(heap, text, first, tree.lengths),
-        Cells::Four => play_tree::<Four>(heap, text, first, tree.lengths),
+        Cells::Single => play_tree::<Single>(heap, lines, first, tree.lengths),
+        Cells::Pair => play_tree::<Pair>(heap, lines, first, tree.lengths),
+        Cells::Four => play_tree::<Four>(heap, lines, first, tree.lengths),
     }
 }
