@@ -1,6 +1,5 @@
 -- How large the components of a row are, and the scan for the first that is too large.
-use Rattle.std.proofs.Common.{◌≡◌, ℕ, zero, suc, ◌+◌, ◌*◌, ◌<◌, ◌≤◌, Bool, true, false, cond, ltb, [], ◌∷◌, length, drop, ℤ, pos, negsuc, ◌+ℤ◌, ◌-ℤ◌, ◌*ℤ◌, nat_abs, Some, None, sym, refl, ap, ◌∙◌, add-zero, mul-le-mul_left, add-one, arith}
-use Rattle.std.proofs.lemmas.List.{at_drop_more, at_drop_all}
+use Rattle.std.proofs.Common.{◌≡◌, ℕ, zero, suc, ◌+◌, ◌*◌, ◌<◌, ◌≤◌, Bool, true, false, cond, ltb, [], ◌∷◌, length, ℤ, pos, negsuc, ◌+ℤ◌, ◌-ℤ◌, ◌*ℤ◌, nat_abs, Some, None, sym, refl, ap, ◌∙◌, add-zero, mul-le-mul_left, arith}
 use Rattle.std.proofs.lemmas.Int.{ints}
 use Rattle.std.proofs.lemmas.Bool.{le-ltb, lt-ltb, ltb-false}
 use Rattle.algebra.specs.Row.{Row, part, zip, zeros, Within, beyond, beyond_from, ◌⊕◌, ◌⊖◌, ◌⊙◌}
@@ -58,22 +57,7 @@ within-rows w a (suc n) f h =
     within_more (n * a + a) (suc n * a) (sum_rows w (suc n) f) (omega arith)
     (within-add (n * a) a (sum_rows w n f) (f n) (within-rows w a n f (λ j l. h j (omega arith))) (h n (omega arith)))
 
--- the scan: one step, the end, and what it says of the whole row
-pub beyond-more : (l : ℕ) (r : Row) (i : ℕ) (x : ℤ) → i < length r → x ≡ part r i
-    → beyond_from l i (drop i r) ≡ cond (ltb l (nat_abs x)) (Some i) (beyond_from l (i + 1) (drop (i + 1) r))
-beyond-more l r i x h e = at_drop_more (beyond_from l i) r i (pos 0) h ∙ rw (e, add-one) refl
-
-pub beyond-on : (l : ℕ) (r : Row) (i : ℕ) (x : ℤ) → i < length r → x ≡ part r i → ltb l (nat_abs x) ≡ false
-    → beyond_from l i (drop i r) ≡ beyond_from l (i + 1) (drop (i + 1) r)
-beyond-on l r i x h e f = beyond-more l r i x h e ∙ ap (λ b. cond b (Some i) (beyond_from l (i + 1) (drop (i + 1) r))) f
-
-pub beyond-hit : (l : ℕ) (r : Row) (i : ℕ) (x : ℤ) → i < length r → x ≡ part r i → ltb l (nat_abs x) ≡ true
-    → beyond_from l i (drop i r) ≡ Some i
-beyond-hit l r i x h e f = beyond-more l r i x h e ∙ ap (λ b. cond b (Some i) (beyond_from l (i + 1) (drop (i + 1) r))) f
-
-pub beyond-end : (l : ℕ) (r : Row) (i : ℕ) → length r ≤ i → beyond_from l i (drop i r) ≡ None
-beyond-end l r i h = at_drop_all (beyond_from l i) r i h
-
+-- what the scan says of the whole row
 none_from : (l at : ℕ) (r : Row) → Within l r → beyond_from l at r ≡ None
 none_from l at [] w = refl
 none_from l at (x ∷ xs) w =
@@ -87,7 +71,7 @@ within-from l at [] e = λ i. omega arith
 within-from l at (x ∷ xs) e = go (ltb l (nat_abs x)) refl e (λ q. within-from l (suc at) xs q)
   where
     go : (b : Bool) → ltb l (nat_abs x) ≡ b → cond b (Some at) (beyond_from l (suc at) xs) ≡ None → (beyond_from l (suc at) xs ≡ None → Within l xs) → Within l (x ∷ xs)
-    go true p q rest i = let z : ◌≡◌ {A = ℕ} 0 1 = cc in absurd (omega arith)
+    go true p q rest i = absurd cc
     go false p q rest zero = ltb-false l (nat_abs x) p
     go false p q rest (suc i) = rest q i
 

@@ -3,7 +3,7 @@ use Rattle.std.proofs.Common.{◌≡◌, ℕ, zero, suc, ◌<◌, [], ◌∷◌,
 use lib.IntN.{ℤ_discrete, *ℤ-zero}
 use Rattle.algebra.proofs.Ring.{lin}
 use Rattle.algebra.proofs.Form.{M, Form}
-use Rattle.std.proofs.lemmas.List.{length-replicate}
+use Rattle.std.proofs.lemmas.List.{length-replicate, length-map}
 use Rattle.algebra.specs.Row.{Row, part, tabulate, zip, ◌⊕◌, ◌⊖◌, ◌⊙◌, zeros, Product}
 use Rattle.algebra.specs.Sum.{sum, sum_rows}
 
@@ -29,8 +29,7 @@ zip_length f zero (x ∷ r) (y ∷ s) h k = absurd (omega arith)
 zip_length f (suc w) (x ∷ r) (y ∷ s) h k = ap suc (zip_length f w r s (omega arith) (omega arith))
 
 pub scale-length : (c : ℤ) (r : Row) → length (c ⊙ r) ≡ length r
-scale-length c [] = refl
-scale-length c (x ∷ r) = ap suc (scale-length c r)
+scale-length c r = length-map r (λ x. c *ℤ x)
 
 pub zeros-length : (w : ℕ) → length (zeros w) ≡ w
 zeros-length w = length-replicate w (pos 0)

@@ -1,3 +1,5 @@
 pub mod Calls
+pub mod Components
+pub mod Names
 pub mod Products
 pub mod ProductLaws

@@ -1,15 +1,16 @@
-// Four classes, a number for each.
+// Four classes, a number for each. (Each kind has a field for each component and no array, as the project has it.)
 ghost use Rattle.std.specs.Prelude.{◌≤◌, [], ◌∷◌, unsigned_abs};
 ghost use Rattle.cells.specs.Calls.{carry_limit};
 ghost use Rattle.cells.specs.Products.{four};
 ghost use Rattle.cells.specs.ProductLaws.{four-laws};
 ghost use Rattle.std.proofs.Common.{rules};
 
-use crate::admission::admit;
+use crate::admission::{admit, no_component};
+use crate::cell_kind::CellKind;
 use crate::kind::Kind;
-use denial::{Denial, Reason};
+use denial::Denial;
 
-#[derive(Clone, Copy)]
+#[derive(Clone, Copy, PartialEq, Eq, Debug)]
 pub struct Four {
     first: i64,
     second: i64,
@@ -38,7 +39,7 @@ impl Kind for Four {
     ghost lawful = { four-laws };
 
     fn number() -> u8 {
-        3
+        CellKind::Four as u8
     }
 
     fn width() -> usize {
@@ -60,10 +61,7 @@ impl Kind for Four {
             1 => Ok(self.second),
             2 => Ok(self.third),
             3 => Ok(self.fourth),
-            _ => Err(Denial {
-                reason: Reason::NoSuchComponent,
-                place: i as u64,
-            }),
+            _ => Err(no_component(i)),
         }
     }
 

@@ -2,6 +2,8 @@
 #![tactic(auto)]
 
 mod admission;
+mod cell_kind;
+mod components;
 mod four;
 mod kind;
 mod pair;
@@ -9,6 +11,8 @@ mod single;
 #[cfg(test)]
 mod tests;
 
+pub use cell_kind::{CellKind, UnknownKind};
+pub use components::Components;
 pub use four::Four;
 pub use kind::{CARRY_LIMIT, Kind};
 pub use pair::Pair;

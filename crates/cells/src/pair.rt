@@ -1,15 +1,16 @@
-// A pair: what came in, and what went out.
+// A pair: what came in, and what went out. (Each kind has a field for each component and no array, as the project has it.)
 ghost use Rattle.std.specs.Prelude.{◌≤◌, [], ◌∷◌, unsigned_abs};
 ghost use Rattle.cells.specs.Calls.{carry_limit};
 ghost use Rattle.cells.specs.Products.{pair};
 ghost use Rattle.cells.specs.ProductLaws.{pair-laws};
 ghost use Rattle.std.proofs.Common.{rules};
 
-use crate::admission::admit;
+use crate::admission::{admit, no_component};
+use crate::cell_kind::CellKind;
 use crate::kind::Kind;
-use denial::{Denial, Reason};
+use denial::Denial;
 
-#[derive(Clone, Copy)]
+#[derive(Clone, Copy, PartialEq, Eq, Debug)]
 pub struct Pair {
     inward: i64,
     outward: i64,
@@ -36,7 +37,7 @@ impl Kind for Pair {
     ghost lawful = { pair-laws };
 
     fn number() -> u8 {
-        2
+        CellKind::Pair as u8
     }
 
     fn width() -> usize {
@@ -54,10 +55,7 @@ impl Kind for Pair {
         match i {
             0 => Ok(self.inward),
             1 => Ok(self.outward),
-            _ => Err(Denial {
-                reason: Reason::NoSuchComponent,
-                place: i as u64,
-            }),
+            _ => Err(no_component(i)),
         }
     }
 

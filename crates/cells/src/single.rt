@@ -1,15 +1,16 @@
-// A single number.
+// A single number. (Each kind has a field for each component and no array, as the project has it.)
 ghost use Rattle.std.specs.Prelude.{◌≤◌, [], ◌∷◌, unsigned_abs};
 ghost use Rattle.cells.specs.Calls.{carry_limit};
 ghost use Rattle.cells.specs.Products.{single};
 ghost use Rattle.cells.specs.ProductLaws.{single-laws};
 ghost use Rattle.std.proofs.Common.{rules};
 
-use crate::admission::admit;
+use crate::admission::{admit, no_component};
+use crate::cell_kind::CellKind;
 use crate::kind::Kind;
-use denial::{Denial, Reason};
+use denial::Denial;
 
-#[derive(Clone, Copy)]
+#[derive(Clone, Copy, PartialEq, Eq, Debug)]
 pub struct Single {
     value: i64,
     ghost held: { unsigned_abs value ≤ carry_limit },
@@ -35,7 +36,7 @@ impl Kind for Single {
     ghost lawful = { single-laws };
 
     fn number() -> u8 {
-        1
+        CellKind::Single as u8
     }
 
     fn width() -> usize {
@@ -49,10 +50,7 @@ impl Kind for Single {
     fn component(self, i: usize) -> Result<i64, Denial> {
         match i {
             0 => Ok(self.value),
-            _ => Err(Denial {
-                reason: Reason::NoSuchComponent,
-                place: i as u64,
-            }),
+            _ => Err(no_component(i)),
         }
     }
 

@@ -1,4 +1,4 @@
-use crate::{CARRY_LIMIT, Four, Kind, Pair, Single};
+use crate::{CARRY_LIMIT, CellKind, Components, Four, Kind, Pair, Single, UnknownKind};
 use denial::{Denial, Reason};
 use std::test::Fail;
 
@@ -81,4 +81,33 @@ fn arithmetic_of_pairs(rt: HostRuntime) -> Result<(), Fail> {
         )
     );
     Ok(())
+}
+
+#[test]
+fn kinds_by_number(rt: HostRuntime) {
+    assert_eq!(rt; CellKind::try_from(1), Ok(CellKind::Single));
+    assert_eq!(rt; CellKind::try_from(2), Ok(CellKind::Pair));
+    assert_eq!(rt; CellKind::try_from(3), Ok(CellKind::Four));
+    assert_eq!(rt; CellKind::try_from(0), Err(UnknownKind(0)));
+    assert_eq!(rt; CellKind::try_from(4), Err(UnknownKind(4)));
+}
+
+#[test]
+fn components_in_order(rt: HostRuntime) -> Result<(), Fail> {
+    let mut components = Components::of(pair(3, -4)?);
+    assert_eq!(rt; components.next(), Some(3));
+    assert_eq!(rt; components.next(), Some(-4));
+    assert_eq!(rt; components.next(), None);
+    assert_eq!(rt; components.next(), None);
+    Ok(())
+}
+
+#[test]
+fn built_from_what_is_told(rt: HostRuntime) {
+    assert_eq!(rt;
+        parts(Pair::build(|i| Ok(if i == 0 { 5 } else { -6 }))),
+        Some((5, -6))
+    );
+    let refused = Pair::build(|_| Ok(CARRY_LIMIT + 1));
+    assert_eq!(rt; refused.err().map(|denial| denial.place), Some(0));
 }

@@ -1,5 +1,5 @@
 -- The calls that lines spell, one after another.
-use Rattle.std.proofs.Common.{◌≡◌, ℕ, ◌+◌, ◌<◌, ◌≤◌, List, [], ◌∷◌, ◌++◌, map, length, get_or, drop, sym, refl, ap, ◌∙◌, subst, append-nil, append_assoc, arith, Bor}
+use Rattle.std.proofs.Common.{◌≡◌, ℕ, ◌+◌, ◌<◌, List, [], ◌∷◌, ◌++◌, map, length, get_or, drop, sym, refl, ap, ◌∙◌, subst, append_assoc, arith, Bor}
 use Rattle.std.specs.Bool.{IsTrue}
 use Rattle.std.proofs.lemmas.Bool.Decides.{nat_tests}
 use Rattle.std.proofs.lemmas.List.{map-append}
@@ -10,7 +10,7 @@ use Rattle.tree_sheet.specs.declared.call.Call.{Call}
 use Rattle.console.specs.Script.{is_some_line, line_words, said, Adds, EachSpells}
 use Rattle.console.specs.Spelling.{Spells}
 use Rattle.console.specs.Words.{texts}
-use Rattle.console.proofs.Said.{said-none, said-silent, said-some}
+use Rattle.console.proofs.Said.{said-silent, said-some}
 
 module _ (w : ℕ) where
   each-more : (done : List (List (List ℕ))) (calls : List Asked) (ws : List (List ℕ)) (call : Asked)
@@ -26,25 +26,22 @@ module _ (w : ℕ) where
   each-middle (v ∷ done) more ws [] h = absurd h
   each-middle (v ∷ done) more ws (x ∷ calls) h = each-middle done more ws calls h.1
 
-  -- the calls of the lines from n on and before i
-  pub record Taken (ls : List (List ℕ)) (n i : ℕ) (calls : List Asked) : Type 0 where
+  -- the calls of the first i lines
+  pub record Taken (ls : List (List ℕ)) (i : ℕ) (calls : List Asked) : Type 0 where
     pub done : List (List (List ℕ))
-    pub follows : said (drop n ls) ≡ done ++ said (drop i ls)
+    pub follows : said ls ≡ done ++ said (drop i ls)
     pub spells : EachSpells w done calls
 
-  pub taken-none : (ls : List (List ℕ)) (n : ℕ) → Taken ls n n []
-  taken-none ls n = record { done = []; follows = refl; spells = tt }
-
-  module _ (ws : List (Bor (List ℕ))) (n i : ℕ) (d : Bor (List ℕ)) where
+  module _ (ws : List (Bor (List ℕ))) (i : ℕ) (d : Bor (List ℕ)) where
     abbrev line : List (List ℕ)
     line = line_words (get_or ws i d).now
 
     module _ {K : Type 0} (row : K → Row) where
-      pub taken-more : i < length ws → (calls more : List (Call K)) → Taken (texts ws) n i (map (asked row) calls) → Adds w row line calls more
-          → Taken (texts ws) n (i + 1) (map (asked row) more)
+      pub taken-more : i < length ws → (calls more : List (Call K)) → Taken (texts ws) i (map (asked row) calls) → Adds w row line calls more
+          → Taken (texts ws) (i + 1) (map (asked row) more)
       taken-more l calls more t a = go line refl a
         where
-          go : (x : List (List ℕ)) → line ≡ x → Adds w row x calls more → Taken (texts ws) n (i + 1) (map (asked row) more)
+          go : (x : List (List ℕ)) → line ≡ x → Adds w row x calls more → Taken (texts ws) (i + 1) (map (asked row) more)
           go [] e h = record {
             done = t.done;
             follows = t.follows ∙ ap (λ v. t.done ++ v) (said-silent ws i d l (ap length e));
@@ -58,15 +55,10 @@ module _ (w : ℕ) where
                 (each-more t.done (map (asked row) calls) (x ∷ xs) (asked row h.0) t.spells h.1);
           }
 
-    pub taken-wrong : i < length ws → (calls : List Asked) → Taken (texts ws) n i calls → IsTrue (is_some_line line) → ((call : Asked) → Spells w line call → ⊥)
-        → (all : List Asked) → EachSpells w (said (drop n (texts ws))) all → ⊥
+    pub taken-wrong : i < length ws → (calls : List Asked) → Taken (texts ws) i calls → IsTrue (is_some_line line) → ((call : Asked) → Spells w line call → ⊥)
+        → (all : List Asked) → EachSpells w (said (texts ws)) all → ⊥
     taken-wrong l calls t some never all h =
         let long : 0 < length line = grind (arith, nat_tests) in
         let e = t.follows ∙ ap (λ v. t.done ++ v) (said-some ws i d l long) in
         let m = each-middle t.done (said (drop (i + 1) (texts ws))) line all (subst (λ v. EachSpells w v all) e h) in
         never m.0 m.1
-
-  pub taken-all : (ws : List (Bor (List ℕ))) (n i : ℕ) (calls : List Asked) → length ws ≤ i → Taken (texts ws) n i calls → EachSpells w (said (drop n (texts ws))) calls
-  taken-all ws n i calls l t =
-      let e : said (drop n (texts ws)) ≡ t.done = t.follows ∙ ap (λ v. t.done ++ v) (said-none ws i l) ∙ append-nil t.done in
-      subst (λ v. EachSpells w v calls) (sym e) t.spells

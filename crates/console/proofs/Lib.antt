@@ -1,3 +1,4 @@
+pub mod Exits
 pub mod Names
 pub mod Pairs
 pub mod Rows

@@ -3,6 +3,7 @@ use Rattle.std.proofs.Common.{◌≡◌, ℕ, cond, List, length, drop, codes, s
 use Rattle.std.specs.Str.{bytes_eq}
 use Rattle.algebra.specs.Row.{Row}
 use Rattle.history.specs.Events.{Asked, lay, enter, enter_wire, strike, load, release, read, publish}
+use Rattle.console.specs.Words.{Number}
 use Rattle.console.specs.Spelling.{Argued, Bytes, One, Placed, Spells, Two, at, name_of}
 
 pub data Verb : Type 0 where
@@ -47,11 +48,11 @@ abbrev pub Refuses : ℕ → List (List ℕ) → Verb → Type 0
 Refuses w args to_lay = (m n : ℕ) → Two args m n → ⊥
 Refuses w args to_enter = (n : ℕ) (x : Row) → Placed w args n x → ⊥
 Refuses w args to_wire = (n : ℕ) (x : Row) → Placed w args n x → ⊥
-Refuses w args to_strike = (n : ℕ) → One 32 args n → ⊥
+Refuses w args to_strike = (n : ℕ) → One (Number 32) args n → ⊥
 Refuses w args to_load = (bs : List ℕ) → Bytes args bs → ⊥
 Refuses w args to_release = length args ≡ 0 → ⊥
-Refuses w args to_read = (n : ℕ) → One 32 args n → ⊥
-Refuses w args to_publish = (n : ℕ) → One 64 args n → ⊥
+Refuses w args to_read = (n : ℕ) → One (Number 32) args n → ⊥
+Refuses w args to_publish = (n : ℕ) → One (Number 64) args n → ⊥
 Refuses w args none = Unit {0}
 
 refuses : (w : ℕ) (args : List (List ℕ)) (call : Asked) → Refuses w args (verb_of call) → Argued w args call → ⊥
@@ -68,15 +69,3 @@ pub not-spelt : (w : ℕ) (words : List (List ℕ)) (v : Verb) → verb (at word
 not-spelt w words v e never call s =
     let same : verb_of call ≡ v = sym (named call) ∙ ap verb (sym s.name) ∙ e in
     refuses w (drop 1 words) call (subst (Refuses w (drop 1 words)) (sym same) never) s.arguments
-
--- a name that no call has
-pub nameless : (name : List ℕ) → (name ≡ codes "lay" → ⊥) → (name ≡ codes "enter" → ⊥) → (name ≡ codes "wire" → ⊥) → (name ≡ codes "strike" → ⊥)
-    → (name ≡ codes "load" → ⊥) → (name ≡ codes "release" → ⊥) → (name ≡ codes "read" → ⊥) → (name ≡ codes "publish" → ⊥) → (call : Asked) → name ≡ name_of call → ⊥
-nameless name a b c d e f g h (lay m n) = a
-nameless name a b c d e f g h (enter n x) = b
-nameless name a b c d e f g h (enter_wire n x) = c
-nameless name a b c d e f g h (strike n) = d
-nameless name a b c d e f g h (load t) = e
-nameless name a b c d e f g h release = f
-nameless name a b c d e f g h (read n) = g
-nameless name a b c d e f g h (publish n) = h

@@ -1,68 +1,107 @@
--- Pairs of hex digits one by one, and the text of bytes read back.
-use Rattle.std.proofs.Common.{◌≡◌, ℕ, zero, suc, ◌+◌, ◌*◌, ◌/◌, ◌%◌, ◌<◌, List, [], ◌∷◌, ◌++◌, length, get_or, take, sym, refl, ap, ◌∙◌, subst, arith}
+-- Hex text as the specification has it and as the crate `hex` has it.
+use Rattle.std.proofs.Common.{◌≡◌, ℕ, suc, ◌≤◌, inl, inr, ◌⊎◌, ◌+◌, ◌*◌, ◌/◌, ◌%◌, ◌<◌, true, List, [], ◌∷◌, length, slice_index, Some, Ok, Err, sym, refl, ap, ◌∙◌, arith}
+use Rattle.std.specs.List.{AllPass}
 use Rattle.std.specs.Str.Parse.{AllDigits}
 use Rattle.std.specs.Char.{digit_char, digit_value}
-use Rattle.std.proofs.lemmas.Int.Digits.{digits_more}
-use Rattle.std.proofs.lemmas.List.{append_assoc, length-take, take_more}
-use Rattle.std.proofs.lemmas.Str.{digit_value-digit_char}
-use Rattle.console.specs.Hex.{ReadsBack, bytes_of, hex_text}
+use Rattle.std.proofs.lemmas.Bool.{cases_lt}
+use Rattle.std.proofs.lemmas.Bool.Decides.{nat_tests}
+use Rattle.std.proofs.lemmas.List.Elements.{All-head, All-tail}
+use Rattle.hex.specs.Hex.{IsBytes, decode_of, decode_pairs, digit_or_error, encode_lower, encode_with, hex_digit_value, is_hex_digit, lower_digits, pair_value, value_at}
+use Rattle.hex.specs.declared.error.FromHexError.{FromHexError}
+use Rattle.hex.specs.declared.error.FromHexError.TheVariants.{InvalidHexCharacter, InvalidStringLength, OddLength, OutOfMemory}
+use Rattle.console.specs.Mistakes.{hex_mistake}
+use Rattle.console.specs.declared.mistake.Mistake.{Mistake}
+use Rattle.console.specs.declared.mistake.Mistake.TheVariants.{NoHex, NoMemory}
+use Rattle.hex.proofs.HexLemmas.{decode_of-encode_lower, decode_of-even, decode_of-ok, decode_of-same}
+use Rattle.hex.proofs.Pairs.{cons_byte, decode_pairs-ok_pair}
+use Rattle.console.specs.Hex.{Hex, ReadsBack, bytes_of, hex_text}
 
-pub each-digit : (ds : List ℕ) (i : ℕ) → AllDigits 16 ds → i < length ds → digit_value (get_or ds i 0) < 16
-each-digit [] i d l = absurd (omega arith)
-each-digit (x ∷ xs) zero d l = d.0
-each-digit (x ∷ xs) (suc i) d l = each-digit xs i d.1 (omega arith)
+-- a digit
+digit-some : (c : ℕ) → digit_value c < 16 → hex_digit_value c ≡ Some (digit_value c)
+digit-some c h = grind (arith)
 
-bytes-push : (xs : List ℕ) (x y : ℕ) → length xs % 2 ≡ 0 → bytes_of (xs ++ x ∷ y ∷ []) ≡ bytes_of xs ++ (16 * digit_value x + digit_value y) ∷ []
-bytes-push [] x y e = refl
-bytes-push (a ∷ []) x y e = absurd (omega arith)
-bytes-push (a ∷ b ∷ rest) x y e = ap (λ t. (16 * digit_value a + digit_value b) ∷ t) (bytes-push rest x y (omega arith))
+digit-low : (c : ℕ) → c < 65 → is_hex_digit c ≡ true → digit_value c < 16
+digit-low c l h = grind (arith)
 
-module _ (ds : List ℕ) (i : ℕ) (l : 2 * i + 1 < length ds) where
-  two-more : take (2 * (i + 1)) ds ≡ take (2 * i) ds ++ get_or ds (2 * i) 0 ∷ get_or ds (2 * i + 1) 0 ∷ []
-  two-more =
-      let e : 2 * (i + 1) ≡ 2 * i + 1 + 1 = omega arith in
-      ap (λ n. take n ds) e ∙ take_more ds (2 * i + 1) 0 l
-      ∙ ap (λ t. t ++ get_or ds (2 * i + 1) 0 ∷ []) (take_more ds (2 * i) 0 (omega arith))
-      ∙ append_assoc (take (2 * i) ds) (get_or ds (2 * i) 0 ∷ []) (get_or ds (2 * i + 1) 0 ∷ [])
+digit-upper : (c : ℕ) → 65 ≤ c → c < 97 → is_hex_digit c ≡ true → digit_value c < 16
+digit-upper c l u h = grind (arith)
 
-  pub bytes-more : bytes_of (take (2 * (i + 1)) ds) ≡ bytes_of (take (2 * i) ds) ++ (16 * digit_value (get_or ds (2 * i) 0) + digit_value (get_or ds (2 * i + 1) 0)) ∷ []
-  bytes-more =
-      let even : length (take (2 * i) ds) % 2 ≡ 0 = simp length-take (omega arith) in
-      ap bytes_of two-more ∙ bytes-push (take (2 * i) ds) (get_or ds (2 * i) 0) (get_or ds (2 * i + 1) 0) even
+digit-lower : (c : ℕ) → 97 ≤ c → c < 103 → digit_value c < 16
+digit-lower c l u = grind (arith, nat_tests)
 
-  pub pair-more : AllDigits 16 (take (2 * i) ds) → digit_value (get_or ds (2 * i) 0) < 16 → digit_value (get_or ds (2 * i + 1) 0) < 16 → AllDigits 16 (take (2 * (i + 1)) ds)
-  pair-more d high low =
-      let e : 2 * i + 1 + 1 ≡ 2 * (i + 1) = omega arith in
-      subst (λ n. AllDigits 16 (take n ds)) e (digits_more 16 ds (2 * i + 1) l (digits_more 16 ds (2 * i) (omega arith) d high) low)
+no-digit : (c : ℕ) → 103 ≤ c → is_hex_digit c ≡ true → digit_value c < 16
+no-digit c l h = grind (arith)
 
--- the text of bytes, read back
-byte-back : (b : ℕ) → b < 256 → 16 * digit_value (digit_char (b / 16)) + digit_value (digit_char (b % 16)) ≡ b
-byte-back b l =
-    let high : digit_value (digit_char (b / 16)) ≡ b / 16 = digit_value-digit_char (b / 16) (omega arith) in
-    let low : digit_value (digit_char (b % 16)) ≡ b % 16 = digit_value-digit_char (b % 16) (omega arith) in
-    omega arith
+digit-small : (c : ℕ) → is_hex_digit c ≡ true → digit_value c < 16
+digit-small c h =
+    elim (cases_lt c 65) [
+      | inl low ↦ digit-low c low h
+      | inr high ↦ elim (cases_lt c 97) [
+        | inl upper ↦ digit-upper c high upper h
+        | inr lower ↦ elim (cases_lt c 103) [
+          | inl last ↦ digit-lower c lower last
+          | inr past ↦ no-digit c past h
+        ]
+      ]
+    ]
 
-back-bytes : (bs : List ℕ) → ((k : ℕ) → get_or bs k 0 < 256) → bytes_of (hex_text bs) ≡ bs
-back-bytes [] h = refl
-back-bytes (b ∷ bs) h = λ i. byte-back b (h 0) i ∷ back-bytes bs (λ k. h (suc k)) i
+digits-pass : (ds : List ℕ) → AllPass is_hex_digit ds → AllDigits 16 ds
+digits-pass [] h = tt
+digits-pass (c ∷ cs) h =
+    (digit-small c (All-head (λ x. is_hex_digit x ≡ true) c cs h), digits-pass cs (All-tail (λ x. is_hex_digit x ≡ true) c cs h))
 
-back-digits : (bs : List ℕ) → ((k : ℕ) → get_or bs k 0 < 256) → AllDigits 16 (hex_text bs)
-back-digits [] h = tt
-back-digits (b ∷ bs) h =
+pair-read : (a b i : ℕ) → digit_value a < 16 → digit_value b < 16 → pair_value a b i ≡ Ok (digit_value a * 16 + digit_value b)
+pair-read a b i ha hb =
+    let ea : value_at a i ≡ Ok (digit_value a) = ap (digit_or_error a i) (digit-some a ha) in
+    let eb : value_at b (i + 1) ≡ Ok (digit_value b) = ap (digit_or_error b (i + 1)) (digit-some b hb) in
+    rw (ea, eb) refl
+
+pairs-read : (i : ℕ) (ds : List ℕ) → length ds % 2 ≡ 0 → AllDigits 16 ds → decode_pairs i ds ≡ Ok (bytes_of ds)
+unfolding decode_pairs
+pairs-read i [] even d = refl
+pairs-read i (a ∷ []) even d = absurd (omega arith)
+pairs-read i (a ∷ b ∷ rest) even d =
+    let byte : digit_value a * 16 + digit_value b ≡ 16 * digit_value a + digit_value b = omega arith in
+    decode_pairs-ok_pair i a b _ rest (pair-read a b i d.0 d.1.0)
+    ∙ ap (cons_byte (digit_value a * 16 + digit_value b)) (pairs-read (i + 2) rest (omega arith) d.1.1)
+    ∙ ap (λ (v : ℕ). Ok (v ∷ bytes_of rest)) byte
+
+-- what is decoded
+pub decoded : (ds : List ℕ) → Hex ds → decode_of ds ≡ Ok (bytes_of ds)
+decoded ds h = decode_of-even ds h.0 ∙ pairs-read 0 ds h.0 h.1
+
+pub decoded-hex : (ds bytes : List ℕ) → decode_of ds ≡ Ok bytes → Hex ds × (bytes ≡ bytes_of ds)
+decoded-hex ds bytes e =
+    let ok = decode_of-ok ds bytes e in
+    let h : Hex ds = (ok.0, digits-pass ds ok.1) in
+    (h, decode_of-same ds bytes (bytes_of ds) e (decoded ds h))
+
+not-hex : (ds : List ℕ) (e : FromHexError) → decode_of ds ≡ Err e → Hex ds → ⊥
+not-hex ds e wrong h = let right = decoded ds h in cc
+
+-- the error of a word that is not read
+pub hex-refused : (ds : List ℕ) (e : FromHexError) (m : Mistake) → m ≡ hex_mistake e → (e ≡ OutOfMemory) ⊎ (decode_of ds ≡ Err e)
+    → (m ≡ NoMemory) ⊎ ((m ≡ NoHex) × (Hex ds → ⊥))
+hex-refused ds OutOfMemory m s w = inl s
+hex-refused ds (InvalidHexCharacter c i) m s (inl e) = cc
+hex-refused ds (InvalidHexCharacter c i) m s (inr e) = inr (s, not-hex ds (InvalidHexCharacter c i) e)
+hex-refused ds OddLength m s (inl e) = cc
+hex-refused ds OddLength m s (inr e) = inr (s, not-hex ds OddLength e)
+hex-refused ds InvalidStringLength m s (inl e) = cc
+hex-refused ds InvalidStringLength m s (inr e) = inr (s, not-hex ds InvalidStringLength e)
+
+-- what is encoded
+digit-glyph : (d : ℕ) → d < 16 → slice_index lower_digits d ≡ digit_char d
+digit-glyph d h = grind (arith)
+
+pub encoded : (bs : List ℕ) → IsBytes bs → encode_lower bs ≡ hex_text bs
+unfolding encode_with
+encoded [] h = refl
+encoded (b ∷ rest) h =
     let l : b < 256 = h 0 in
-    let high : digit_value (digit_char (b / 16)) ≡ b / 16 = digit_value-digit_char (b / 16) (omega arith) in
-    let low : digit_value (digit_char (b % 16)) ≡ b % 16 = digit_value-digit_char (b % 16) (omega arith) in
-    (omega arith, (omega arith, back-digits bs (λ k. h (suc k))))
+    λ i. digit-glyph (b / 16) (omega arith) i ∷ digit-glyph (b % 16) (omega arith) i ∷ encoded rest (λ k. h (suc k)) i
 
-back-even : (bs : List ℕ) → length (hex_text bs) % 2 ≡ 0
-back-even [] = refl
-back-even (b ∷ bs) = let e : length (hex_text bs) % 2 ≡ 0 = back-even bs in omega arith
-
-pub reads-back : (bs : List ℕ) → ((k : ℕ) → get_or bs k 0 < 256) → ReadsBack bs
-reads-back bs h = record { hex = (back-even bs, back-digits bs h); same = back-bytes bs h }
-
--- one pair more is read
-pub pushed-pair : (ds : List ℕ) (i : ℕ) (before after : List ℕ) (high low : ℕ) → 2 * i + 1 < length ds
-    → before ≡ bytes_of (take (2 * i) ds) → high ≡ digit_value (get_or ds (2 * i) 0) → low ≡ digit_value (get_or ds (2 * i + 1) 0)
-    → after ≡ before ++ (16 * high + low) ∷ [] → after ≡ bytes_of (take (2 * (i + 1)) ds)
-pushed-pair ds i before after high low l b h o a = a ∙ (λ j. b j ++ (16 * h j + o j) ∷ []) ∙ sym (bytes-more ds i l)
+pub reads-back : (bs : List ℕ) → IsBytes bs → ReadsBack bs
+reads-back bs h =
+    let back = decoded-hex (hex_text bs) bs (ap decode_of (sym (encoded bs h)) ∙ decode_of-encode_lower bs h) in
+    record { hex = back.0; same = sym back.1 }

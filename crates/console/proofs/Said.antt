@@ -1,17 +1,13 @@
 -- What the lines of a script say, line by line.
-use Rattle.std.proofs.Common.{◌≡◌, ℕ, suc, ◌+◌, ◌<◌, ◌≤◌, not, cond, List, [], ◌∷◌, length, get_or, drop, sym, ap, ◌∙◌, subst, add-one, arith, Bor}
+use Rattle.std.proofs.Common.{◌≡◌, ℕ, suc, ◌+◌, ◌<◌, not, cond, List, [], ◌∷◌, length, get_or, drop, sym, ap, ◌∙◌, subst, add-one, arith, Bor}
 use Rattle.std.proofs.Math.Seq.{drop-cons}
 use Rattle.std.proofs.lemmas.Bool.{ne_eqb}
-use Rattle.std.proofs.lemmas.List.{length-drop, nil_from_length}
+use Rattle.std.proofs.lemmas.List.{nil_from_length}
 use Rattle.console.specs.Script.{is_some_line, line_words, said, FirstSaid}
 use Rattle.console.specs.Spelling.{SpellsTree}
 use Rattle.console.specs.Words.{texts}
 use Rattle.console.specs.declared.script.Tree.{Tree}
 use Rattle.console.proofs.Texts.{texts-at, texts-length}
-
--- past the last line
-pub said-none : (ws : List (Bor (List ℕ))) (i : ℕ) → length ws ≤ i → said (drop i (texts ws)) ≡ []
-said-none ws i l = ap said (nil_from_length (drop i (texts ws)) (omega (arith, length-drop i (texts ws), texts-length ws)))
 
 module _ (ws : List (Bor (List ℕ))) (i : ℕ) (d : Bor (List ℕ)) (l : i < length ws) where
   abbrev pub here : List (List ℕ)
@@ -54,6 +50,3 @@ module _ (ws : List (Bor (List ℕ))) (i : ℕ) (d : Bor (List ℕ)) (l : i < le
           let both : s.first ∷ said (drop n (texts ws)) ≡ texts vs ∷ after = sym s.follows ∙ passed ∙ spoken h in
           let e : s.first ≡ texts vs = cc in
           never tree (subst (λ x. SpellsTree x tree) e s.spells)
-
-pub first-none : (ws : List (Bor (List ℕ))) → said (texts ws) ≡ [] → (n : ℕ) (tree : Tree) → FirstSaid (texts ws) n tree → ⊥
-first-none ws e n tree s = absurd (omega (arith, ap length (sym e ∙ s.follows)))

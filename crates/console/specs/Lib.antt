@@ -5,3 +5,4 @@ pub mod Spelling
 pub mod Words
 pub mod Play
 pub mod Script
+pub mod Parsing

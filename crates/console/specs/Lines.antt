@@ -3,7 +3,7 @@ use Rattle.std.specs.Prelude.{ℕ, List, [], ◌∷◌, ◌++◌, ℤ, codes, de
 use Rattle.std.specs.List.{flat_map}
 use Rattle.std.specs.Fmt.{signed_decimal}
 use Rattle.algebra.specs.Row.{Row}
-use Rattle.denial.specs.Numbers.{number}
+use Rattle.denial.specs.Text.{denial_text}
 use Rattle.denial.specs.declared.denial.Denial.{Denial}
 use Rattle.history.specs.Replies.{Reply, done, refused, seen, printed}
 use Rattle.console.specs.Hex.{hex_text}
@@ -19,7 +19,7 @@ abbrev pub line_feed : List ℕ
 line_feed = 10 ∷ []
 
 abbrev pub denial_line : Denial → List ℕ
-denial_line e = codes "refused" ++ (field (number e.reason) ++ (field e.place ++ line_feed))
+denial_line e = denial_text e ++ line_feed
 
 abbrev pub cell_line : Row → ℕ → List ℕ
 cell_line row d = codes "ok" ++ (flat_map signed_field row ++ (field d ++ line_feed))

@@ -3,6 +3,8 @@ use Rattle.std.specs.Prelude.{ℕ, ◌+◌, List, ◌++◌, take, codes, decimal
 use Rattle.console.specs.declared.mistake.Mistake.{Mistake}
 use Rattle.console.specs.declared.mistake.Mistake.TheVariants.{NoFirstLine, FirstLine, NoTree, NoKind, LongSlice, NoCall, Arguments, NoNumber, Components, Component, NoHex, NoText, NoMemory}
 use Rattle.console.specs.declared.mistake.Trouble.{Trouble}
+use Rattle.hex.specs.declared.error.FromHexError.{FromHexError}
+use Rattle.hex.specs.declared.error.FromHexError.TheVariants.{OutOfMemory}
 
 abbrev pub said : Mistake → List ℕ
 said NoFirstLine = codes "the script is empty"
@@ -18,6 +20,14 @@ said Component = codes "a component is no number or beyond the carry limit"
 said NoHex = codes "the bytes are no pairs of hex digits"
 said NoText = codes "the line is no text"
 said NoMemory = codes "there is no memory for it"
+
+abbrev pub trouble : ℕ → Mistake → Trouble
+trouble line mistake = record { line = line; mistake = mistake }
+
+-- What is wrong with a word that is no pairs of hex digits, or for which there is no memory.
+abbrev pub hex_mistake : FromHexError → Mistake
+hex_mistake OutOfMemory = NoMemory
+hex_mistake _ = NoHex
 
 abbrev pub trouble_text : Trouble → List ℕ
 trouble_text t = codes "line " ++ (decimal t.line ++ (codes ": " ++ said t.mistake))

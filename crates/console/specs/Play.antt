@@ -1,5 +1,5 @@
 -- What is printed for a script.
-use Rattle.std.specs.Prelude.{◌≡◌, ℕ, List, [], drop, IsUtf8, ℤ}
+use Rattle.std.specs.Prelude.{◌≡◌, ℕ, List, [], drop, codes, IsUtf8, ℤ}
 use Rattle.std.specs.List.{flat_map}
 use Rattle.std.specs.Str.Lines.{lines}
 use Rattle.algebra.specs.Row.{Row}
@@ -9,12 +9,13 @@ use Rattle.history.specs.Facts.{Rooms}
 use Rattle.history.specs.Replies.{Reply}
 use Rattle.history.specs.Runs.{Faithful}
 use Rattle.console.specs.Lines.{reply_line}
+use Rattle.console.specs.Mistakes.{trouble_text, said as mistake_text}
 use Rattle.console.specs.Script.{said, EachSpells, FirstSaid}
 use Rattle.console.specs.declared.mistake.Mistake.TheVariants.{NoMemory}
 use Rattle.console.specs.declared.play.Stop.{Stop}
 use Rattle.console.specs.declared.play.Stop.TheVariants.{Wrong, OutOfMemory, Io}
-use Rattle.console.specs.declared.script.Cells.{Cells}
-use Rattle.console.specs.declared.script.Cells.TheVariants.{Single, Pair, Four}
+use Rattle.cells.specs.declared.cell_kind.CellKind.{CellKind}
+use Rattle.cells.specs.declared.cell_kind.CellKind.TheVariants.{Single, Pair, Four}
 use Rattle.console.specs.declared.script.Lengths.{Lengths}
 use Rattle.console.specs.declared.script.Tree.{Tree}
 
@@ -35,7 +36,7 @@ pub record Follows (k w : ℕ) (dot : Row → Row → ℤ) (lengths : Lengths) (
   pub played : Played k w dot lengths calls text
 
 -- The same by the cells that a tree has.
-abbrev pub FollowsOn : Cells → Lengths → List (List (List ℕ)) → List ℕ → Type 0
+abbrev pub FollowsOn : CellKind → Lengths → List (List (List ℕ)) → List ℕ → Type 0
 FollowsOn Single lengths spoken text = Follows 1 1 single lengths spoken text
 FollowsOn Pair lengths spoken text = Follows 2 2 pair lengths spoken text
 FollowsOn Four lengths spoken text = Follows 3 4 four lengths spoken text
@@ -46,10 +47,16 @@ pub record Plays (script text : List ℕ) : Type 0 where
   pub tree : Tree
   pub n : ℕ
   pub first : FirstSaid (lines script) n tree
-  pub follows : FollowsOn tree.cells tree.lengths (said (drop n (lines script))) text
+  pub follows : FollowsOn tree.kind tree.lengths (said (drop n (lines script))) text
 
 -- A script is not played for want of memory.
 abbrev pub WantsMemory : Stop → Type 0
 WantsMemory (Wrong trouble) = trouble.mistake ≡ NoMemory
 WantsMemory OutOfMemory = Unit {0}
 WantsMemory Io = ⊥
+
+-- What is said of a script that is not played.
+abbrev pub stop_text : Stop → List ℕ
+stop_text (Wrong trouble) = trouble_text trouble
+stop_text OutOfMemory = mistake_text NoMemory
+stop_text Io = codes "input or output failed"

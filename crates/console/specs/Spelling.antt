@@ -4,17 +4,17 @@ use Rattle.algebra.specs.Row.{Row}
 use Rattle.history.specs.Events.{Asked, lay, enter, enter_wire, strike, load, release, read, publish}
 use Rattle.console.specs.Hex.{Hex, bytes_of}
 use Rattle.console.specs.Words.{Components, Number}
-use Rattle.console.specs.declared.script.Cells.{Cells}
-use Rattle.console.specs.declared.script.Cells.TheVariants.{Single, Pair, Four}
+use Rattle.cells.specs.declared.cell_kind.CellKind.{CellKind}
+use Rattle.cells.specs.declared.cell_kind.CellKind.TheVariants.{Single, Pair, Four}
 use Rattle.console.specs.declared.script.Lengths.{Lengths}
 use Rattle.console.specs.declared.script.Tree.{Tree}
 
 abbrev pub at : List (List ℕ) → ℕ → List ℕ
 at words i = slice_index_or words i []
 
--- One number.
-abbrev pub One : ℕ → List (List ℕ) → ℕ → Type 0
-One k args n = (length args ≡ 1) × Number k (at args 0) n
+-- One word, which writes n.
+abbrev pub One : {T : Type 0} → (List ℕ → T → Type 0) → List (List ℕ) → T → Type 0
+One Writes args n = (length args ≡ 1) × Writes (at args 0) n
 
 -- Two numbers of 32 bits.
 abbrev pub Two : List (List ℕ) → ℕ → ℕ → Type 0
@@ -43,11 +43,11 @@ abbrev pub Argued : ℕ → List (List ℕ) → Asked → Type 0
 Argued w args (lay fanout height) = Two args fanout height
 Argued w args (enter node row) = Placed w args node row
 Argued w args (enter_wire wire row) = Placed w args wire row
-Argued w args (strike node) = One 32 args node
+Argued w args (strike node) = One (Number 32) args node
 Argued w args (load table) = Bytes args table
 Argued w args release = length args ≡ 0
-Argued w args (read node) = One 32 args node
-Argued w args (publish room) = One 64 args room
+Argued w args (read node) = One (Number 32) args node
+Argued w args (publish room) = One (Number 64) args room
 
 -- Words spell a call.
 pub record Spells (w : ℕ) (words : List (List ℕ)) (call : Asked) : Type 0 where
@@ -56,7 +56,7 @@ pub record Spells (w : ℕ) (words : List (List ℕ)) (call : Asked) : Type 0 wh
   pub arguments : Argued w (drop 1 words) call
 
 -- A kind's number.
-abbrev pub kind_word : Cells → List ℕ
+abbrev pub kind_word : CellKind → List ℕ
 kind_word Single = codes "1"
 kind_word Pair = codes "2"
 kind_word Four = codes "3"
@@ -75,5 +75,5 @@ FourLengths words l = Long (at words 2) l.noisy × Long (at words 3) l.marks × 
 -- Words spell the first line of a script.
 pub record SpellsTree (words : List (List ℕ)) (tree : Tree) : Type 0 where
   pub name : at words 0 ≡ codes "tree"
-  pub kind : at words 1 ≡ kind_word tree.cells
+  pub kind : at words 1 ≡ kind_word tree.kind
   pub lengths : ((length words ≡ 2) × (tree.lengths ≡ usual)) ⊎ ((length words ≡ 6) × FourLengths words tree.lengths)

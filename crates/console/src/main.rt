@@ -2,7 +2,7 @@
 #![tactic(auto)]
 
 mod call;
-mod hex;
+mod digits;
 mod mistake;
 mod outcome;
 mod play;

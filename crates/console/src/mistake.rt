@@ -1,9 +1,11 @@
 // What can be wrong with a line of a script.
 ghost use Rattle.std.specs.Prelude.{◌≡◌, Some};
-ghost use Rattle.console.specs.Mistakes.{said, trouble_text};
+ghost use Rattle.console.specs.Mistakes.{hex_mistake, said, trouble, trouble_text};
 ghost use Rattle.console.specs.declared.mistake.Mistake.TheVariants.{NoMemory};
 
+use hex::FromHexError;
 use std::alloc::{AllocError, AllocFailed};
+use std::error::Error;
 use std::fmt;
 
 #[derive(Clone, Copy, PartialEq, Eq, Debug)]
@@ -24,10 +26,23 @@ pub enum Mistake {
 }
 
 impl Mistake {
-    fn text(self) -> &'static str
-        ensures { result.now ≡ said self }
+    // The mistake, in a line of this number.
+    pub fn at(self, line: usize) -> Trouble
+        ensures { result ≡ trouble line self }
     {
-        match self {
+        Trouble {
+            line,
+            mistake: self,
+        }
+    }
+}
+
+// `thiserror` writes no contract of the text, so the words stand here.
+impl fmt::Display for Mistake {
+    ghost output = { λ m. Some (said m) };
+
+    fn fmt<W: fmt::Write>(&self, f: &mut fmt::Formatter<W>) -> fmt::Result {
+        f.write_str(match self {
             Mistake::NoFirstLine => "the script is empty",
             Mistake::FirstLine => "a script begins with a line `tree KIND` or `tree KIND A B C D`",
             Mistake::NoTree => "only tree scripts are taken",
@@ -41,17 +56,11 @@ impl Mistake {
             Mistake::NoHex => "the bytes are no pairs of hex digits",
             Mistake::NoText => "the line is no text",
             Mistake::NoMemory => "there is no memory for it",
-        }
+        })
     }
 }
 
-impl fmt::Display for Mistake {
-    ghost output = { λ m. Some (said m) };
-
-    fn fmt<W: fmt::Write>(&self, f: &mut fmt::Formatter<W>) -> fmt::Result {
-        f.write_str(self.text())
-    }
-}
+impl Error for Mistake {}
 
 impl From<AllocError> for Mistake {
     ghost from_gives = { λ _ r. r ≡ NoMemory };
@@ -66,6 +75,18 @@ impl<T: Drop> From<AllocFailed<T>> for Mistake {
 
     fn from(_error: AllocFailed<T>) -> Mistake {
         Mistake::NoMemory
+    }
+}
+
+// No bytes are read from a word: for want of memory, or since it is no pairs of digits.
+impl From<FromHexError> for Mistake {
+    ghost from_gives = { λ e r. r ≡ hex_mistake e };
+
+    fn from(error: FromHexError) -> Mistake {
+        match error {
+            FromHexError::OutOfMemory => Mistake::NoMemory,
+            _ => Mistake::NoHex,
+        }
     }
 }
 
@@ -85,3 +106,5 @@ impl fmt::Display for Trouble {
         write!(f, "line {line}: {mistake}")
     }
 }
+
+impl Error for Trouble {}

@@ -1,28 +1,43 @@
 // A script is read, its calls are made, and their outcomes are told.
-ghost use Rattle.std.specs.Prelude.{◌≡◌, ◌⊎◌, ℕ, ◌<◌, List, drop, length, map, IfOk, MatchResult, string_bytes};
+ghost use Rattle.std.specs.Prelude.{◌≡◌, ◌⊎◌, ℕ, ◌<◌, List, length, map, IfOk, MatchResult, Some, string_bytes};
 ghost use Rattle.history.specs.Events.{Asked};
 ghost use Rattle.tree_sheet.specs.Replay.{asked};
 ghost use Rattle.console.specs.Mistakes.{line_of};
-ghost use Rattle.console.specs.Play.{Follows, Played, Plays, WantsMemory};
+ghost use Rattle.console.specs.Play.{Follows, Played, Plays, WantsMemory, stop_text};
 ghost use Rattle.console.specs.Script.{said, EachSpells};
 ghost use Rattle.console.specs.Words.{texts};
 ghost use Rattle.console.specs.declared.play.Stop.TheVariants.{Wrong, OutOfMemory, Io};
 
 use crate::mistake::{Mistake, Trouble};
 use crate::outcome::outcomes_text;
-use crate::script::{Cells, Lengths, calls_after, first_line, lines_of};
-use cells::{Four, Kind, Pair, Single};
+use crate::script::{Lengths, Script, lines_of};
+use cells::{CellKind, Four, Kind, Pair, Single};
 use std::alloc::{AllocError, Global};
-use std::io;
+use std::error::Error;
+use std::{fmt, io, str};
 use tree_sheet::{Call, replay, zero_cells};
 
 // Why a script is not played.
-#[derive(Debug, Drop)]
+#[derive(Clone, Copy, PartialEq, Eq, Debug)]
 pub enum Stop {
     Wrong(Trouble),
     OutOfMemory,
     Io,
 }
+
+impl fmt::Display for Stop {
+    ghost output = { λ stop. Some (stop_text stop) };
+
+    fn fmt<W: fmt::Write>(&self, f: &mut fmt::Formatter<W>) -> fmt::Result {
+        match self {
+            Stop::Wrong(trouble) => write!(f, "{trouble}"),
+            Stop::OutOfMemory => write!(f, "{}", Mistake::NoMemory),
+            Stop::Io => write!(f, "input or output failed"),
+        }
+    }
+}
+
+impl Error for Stop {}
 
 impl From<Trouble> for Stop {
     ghost from_gives = { λ t r. r ≡ Wrong t };
@@ -71,16 +86,11 @@ fn sheet_text<K: Kind>(
     outcomes_text(heap, outcomes.as_slice())
 }
 
-fn play_tree<K: Kind>(
-    heap: Global,
-    lines: &[&str],
-    first: usize,
-    lengths: Lengths,
-) -> Result<String, Stop>
-    ensures { MatchResult result (λ t. Follows K.number K.width K.product lengths (said (drop first (texts lines.now))) (string_bytes t)) (λ stop. WantsMemory stop ⊎ ((calls : List Asked) → EachSpells K.width (said (drop first (texts lines.now))) calls → ⊥)) }
+fn play_tree<K: Kind>(heap: Global, script: &Script<'_>) -> Result<String, Stop>
+    ensures { MatchResult result (λ t. Follows K.number K.width K.product script.now.tree.lengths (said (texts script.now.lines.now)) (string_bytes t)) (λ stop. WantsMemory stop ⊎ ((calls : List Asked) → EachSpells K.width (said (texts script.now.lines.now)) calls → ⊥)) }
 {
-    let calls = calls_after::<K>(heap, lines, first)?;
-    let lines = sheet_text(heap, lengths, calls.as_slice())?;
+    let calls = script.calls::<K>(heap)?;
+    let lines = sheet_text(heap, script.tree.lengths, calls.as_slice())?;
     Ok(lines)
 }
 
@@ -89,34 +99,23 @@ fn line_at(text: &[u8], place: usize) -> usize
     requires { place < length text.now }
     ensures { result ≡ line_of text.now place }
 {
-    let mut line = 1;
-    for i in 0..place {
-        if text[i] == b'\n' {
-            line += 1;
-        }
-    }
-    line
+    text[..place].iter().filter(|b| **b == b'\n').count() + 1
 }
 
 // What is printed for a script, or why it is not played: for want of memory, or since nothing is what is printed for it.
 pub fn play_script(heap: Global, script: &[u8]) -> Result<String, Stop>
     ensures { MatchResult result (λ t. Plays script.now (string_bytes t)) (λ stop. WantsMemory stop ⊎ ((text : List ℕ) → Plays script.now text → ⊥)) }
 {
-    let text = match std::str::from_utf8(script) {
-        Ok(text) => text,
-        Err(error) => {
-            return Err(Stop::Wrong(Trouble {
-                line: line_at(script, error.valid_up_to()),
-                mistake: Mistake::NoText,
-            }));
-        }
-    };
-    let all = lines_of(heap, text)?;
-    let lines = all.as_slice();
-    let (first, tree) = first_line(heap, lines)?;
-    match tree.cells {
-        Cells::Single => play_tree::<Single>(heap, lines, first, tree.lengths),
-        Cells::Pair => play_tree::<Pair>(heap, lines, first, tree.lengths),
-        Cells::Four => play_tree::<Four>(heap, lines, first, tree.lengths),
+    let text = str::from_utf8(script).map_err(|error| Mistake::NoText.at(line_at(
+        script,
+        error.valid_up_to(),
+    )))?;
+    let lines = lines_of(heap, text)?;
+    let script = Script::read(heap, lines.as_slice())?;
+    // A match, since no closure is generic over the kind.
+    match script.tree.kind {
+        CellKind::Single => play_tree::<Single>(heap, &script),
+        CellKind::Pair => play_tree::<Pair>(heap, &script),
+        CellKind::Four => play_tree::<Four>(heap, &script),
     }
 }

@@ -1,5 +1,5 @@
 // A script, line by line.
-ghost use Rattle.std.specs.Prelude.{◌≡◌, ◌⊎◌, ℕ, List, ◌∷◌, codes, drop, map, IfOk, IsTrue, MatchResult, ◌≢◌};
+ghost use Rattle.std.specs.Prelude.{◌≡◌, ◌⊎◌, ℕ, ◌+◌, ◌<◌, ◌^◌, List, ◌∷◌, codes, drop, length, map, IfOk, IsTrue, MatchResult, ◌≢◌};
 ghost use Rattle.std.specs.Str.Lines.{lines};
 ghost use Rattle.console.specs.Script.{is_some_line, line_words, said, Adds, EachSpells, FirstSaid};
 ghost use Rattle.console.specs.Spelling.{kind_word, Long, Spells, SpellsTree};
@@ -7,23 +7,15 @@ ghost use Rattle.console.specs.declared.mistake.Mistake.TheVariants.{NoMemory};
 ghost use Rattle.history.specs.Events.{Asked};
 ghost use Rattle.tree_sheet.specs.Replay.{asked};
 ghost use Rattle.console.specs.Words.{texts};
-ghost use Rattle.console.specs.declared.script.Cells.{Cells as Named};
+ghost use Rattle.cells.specs.declared.cell_kind.CellKind.{CellKind as Named};
 ghost use Rattle.console.specs.declared.script.Tree.{Tree as Spelt};
 
 use crate::call::read_call;
 use crate::mistake::{Mistake, Trouble};
-use crate::word::size;
-use cells::Kind;
+use crate::word::number;
+use cells::{CellKind, Kind};
 use std::alloc::{AllocError, Global};
 use tree_sheet::Call;
-
-// Which cells a tree sheet has.
-#[derive(Clone, Copy, PartialEq, Eq, Debug)]
-pub enum Cells {
-    Single,
-    Pair,
-    Four,
-}
 
 // How many cells and marks a tree sheet is given.
 #[derive(Clone, Copy, PartialEq, Eq, Debug)]
@@ -36,7 +28,7 @@ pub struct Lengths {
 
 #[derive(Clone, Copy, PartialEq, Eq, Debug)]
 pub struct Tree {
-    pub cells: Cells,
+    pub kind: CellKind,
     pub lengths: Lengths,
 }
 
@@ -44,13 +36,14 @@ const USUAL_LENGTH: usize = 1023;
 
 const MOST_LENGTH: usize = 4096;
 
-fn cells_named(word: &str) -> Result<Cells, Mistake>
+// The kind that a word names. (The words are the script's own.)
+fn kind_named(word: &str) -> Result<CellKind, Mistake>
     ensures { MatchResult result (λ c. word.now ≡ kind_word c) (λ _. (c : Named) → word.now ≢ kind_word c) }
 {
     match word {
-        "1" => Ok(Cells::Single),
-        "2" => Ok(Cells::Pair),
-        "3" => Ok(Cells::Four),
+        "1" => Ok(CellKind::Single),
+        "2" => Ok(CellKind::Pair),
+        "3" => Ok(CellKind::Four),
         _ => Err(Mistake::NoKind),
     }
 }
@@ -58,7 +51,7 @@ fn cells_named(word: &str) -> Result<Cells, Mistake>
 fn slice_length(word: &str) -> Result<usize, Mistake>
     ensures { MatchResult result (λ n. Long word.now n) (λ _. (n : ℕ) → Long word.now n → ⊥) }
 {
-    match size(word) {
+    match number(word, Mistake::LongSlice) {
         Ok(n) if n <= MOST_LENGTH => Ok(n),
         _ => Err(Mistake::LongSlice),
     }
@@ -70,7 +63,7 @@ fn tree_of(arguments: &[&str]) -> Result<Tree, Mistake>
 {
     match arguments {
         [kind] => Ok(Tree {
-            cells: cells_named(kind)?,
+            kind: kind_named(kind)?,
             lengths: Lengths {
                 noisy: USUAL_LENGTH,
                 marks: USUAL_LENGTH,
@@ -79,7 +72,7 @@ fn tree_of(arguments: &[&str]) -> Result<Tree, Mistake>
             },
         }),
         [kind, noisy, marks, numerators, work] => Ok(Tree {
-            cells: cells_named(kind)?,
+            kind: kind_named(kind)?,
             lengths: Lengths {
                 noisy: slice_length(noisy)?,
                 marks: slice_length(marks)?,
@@ -95,12 +88,9 @@ fn tree_of(arguments: &[&str]) -> Result<Tree, Mistake>
 pub fn read_tree(words: &[&str]) -> Result<Tree, Mistake>
     ensures { MatchResult result (λ tree. SpellsTree (texts words.now) tree) (λ _. (tree : Spelt) → SpellsTree (texts words.now) tree → ⊥) }
 {
-    if words.len() < 1 {
-        return Err(Mistake::FirstLine);
-    }
-    match words[0] {
-        "tree" => tree_of(&words[1..]),
-        "run" => Err(Mistake::NoTree),
+    match words {
+        ["tree", arguments @ ..] => tree_of(arguments),
+        ["run", ..] => Err(Mistake::NoTree),
         _ => Err(Mistake::FirstLine),
     }
 }
@@ -121,58 +111,55 @@ fn words_of<'a>(heap: Global, line: &'a str) -> Result<Vec<&'a str>, AllocError>
     line.split_ascii_whitespace().collect(heap)
 }
 
-// The tree that the first line spells that is not passed over, and the number of that line, from 1.
-pub fn first_line(heap: Global, lines: &[&str]) -> Result<(usize, Tree), Trouble>
-    ensures { MatchResult result (λ p. FirstSaid (texts lines.now) p.0 p.1) (λ t. (t.mistake ≡ NoMemory) ⊎ ((n : ℕ) (tree : Spelt) → FirstSaid (texts lines.now) n tree → ⊥)) }
-{
-    for i in 0..lines.len() {
-        let Ok(words) = words_of(heap, lines[i]) else {
-            return Err(Trouble {
-                line: i + 1,
-                mistake: Mistake::NoMemory,
-            });
-        };
-        if !words.is_empty() {
-            return match read_tree(words.as_slice()) {
-                Ok(tree) => Ok((i + 1, tree)),
-                Err(mistake) => Err(Trouble {
-                    line: i + 1,
-                    mistake,
-                }),
-            };
-        }
-    }
-    Err(Trouble {
-        line: 1,
-        mistake: Mistake::NoFirstLine,
-    })
-}
-
 // Adds the call of a line, unless it is passed over.
 fn add_call<K: Kind>(heap: Global, calls: &mut Vec<Call<K>>, line: &str) -> Result<(), Mistake>
     ensures { MatchResult result (λ _. Adds K.width K.Kind.row (line_words line.now) calls.old.items calls.new.items) (λ m. (m ≡ NoMemory) ⊎ (IsTrue (is_some_line (line_words line.now)) × ((call : Asked) → Spells K.width (line_words line.now) call → ⊥))) }
 {
-    let Ok(words) = words_of(heap, line) else {
-        return Err(Mistake::NoMemory);
-    };
+    let words = words_of(heap, line)?;
     if !words.is_empty() {
         calls.push(read_call(heap, words.as_slice())?)?;
     }
     Ok(())
 }
 
-// The calls that the lines after the first n spell.
-pub fn calls_after<K: Kind>(heap: Global, lines: &[&str], n: usize) -> Result<Vec<Call<K>>, Trouble>
-    ensures { MatchResult result (λ calls. EachSpells K.width (said (drop n (texts lines.now))) (map (asked K.Kind.row) calls.items)) (λ t. (t.mistake ≡ NoMemory) ⊎ ((calls : List Asked) → EachSpells K.width (said (drop n (texts lines.now))) calls → ⊥)) }
-{
-    let mut calls = Vec::new(heap);
-    for i in n..lines.len() {
-        if let Err(mistake) = add_call(heap, &mut calls, lines[i]) {
-            return Err(Trouble {
-                line: i + 1,
-                mistake,
-            });
+// A script whose first line is read: the tree that it spells, and the lines that are to spell calls.
+#[derive(Clone, Copy)]
+pub struct Script<'a> {
+    pub tree: Tree,
+    // How many lines stand before those of the calls.
+    pub before: usize,
+    pub lines: &'a [&'a str],
+    ghost numbered: { before + length lines.now < 2 ^ 64 },
+}
+
+impl<'a> Script<'a> {
+    // The first line is the first one that is not passed over.
+    pub fn read(heap: Global, lines: &'a [&'a str]) -> Result<Self, Trouble>
+        ensures { MatchResult result (λ s. FirstSaid (texts lines.now) s.before s.tree × (texts s.lines.now ≡ drop s.before (texts lines.now))) (λ t. (t.mistake ≡ NoMemory) ⊎ ((n : ℕ) (tree : Spelt) → FirstSaid (texts lines.now) n tree → ⊥)) }
+    {
+        for (i, line) in lines.iter().enumerate() {
+            let number = i + 1;
+            let words = words_of(heap, line).map_err(|_| Mistake::NoMemory.at(number))?;
+            if !words.is_empty() {
+                let tree = read_tree(words.as_slice()).map_err(|mistake| mistake.at(number))?;
+                return Ok(Script {
+                    tree,
+                    before: number,
+                    lines: &lines[number..],
+                });
+            }
         }
+        Err(Mistake::NoFirstLine.at(1))
     }
-    Ok(calls)
+
+    pub fn calls<K: Kind>(&self, heap: Global) -> Result<Vec<Call<K>>, Trouble>
+        ensures { MatchResult result (λ calls. EachSpells K.width (said (texts self.now.lines.now)) (map (asked K.Kind.row) calls.items)) (λ t. (t.mistake ≡ NoMemory) ⊎ ((calls : List Asked) → EachSpells K.width (said (texts self.now.lines.now)) calls → ⊥)) }
+    {
+        let mut calls = Vec::new(heap);
+        for (i, line) in self.lines.iter().enumerate() {
+            let number = self.before + i + 1;
+            add_call(heap, &mut calls, line).map_err(|mistake| mistake.at(number))?;
+        }
+        Ok(calls)
+    }
 }

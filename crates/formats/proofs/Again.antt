@@ -18,10 +18,10 @@ use Rattle.shapes.specs.Tree.{size}
 use Rattle.formats.specs.Bytes.{AreBytes, bytes_at, unsigned, signed, signed_eight, bytes_of, four_bytes, eight_bytes}
 use Rattle.formats.specs.NoisyTable.{kind_in, fanout_in, height_in, mark_rules}
 use Rattle.formats.specs.Publication.{publication_mark, publication_header, row_bytes, place_of, OnePublication}
-use Rattle.formats.proofs.Blocks.{blocks-made}
+use Rattle.formats.proofs.Blocks.{byte_is, blocks-made}
 use Rattle.formats.proofs.Overlay.{place-room}
-use Rattle.formats.proofs.ReadBack.{bytes-taken, bytes-within}
-use Rattle.formats.proofs.Words.{part-tabulate}
+use Rattle.formats.proofs.ReadBack.{bytes-within}
+use Rattle.formats.proofs.Words.{bytes-taken, part-tabulate}
 
 -- the number that bytes write after an earlier one
 number-after : (n : ℕ) (bs : List ℕ) → number_from_digits_after 256 n bs ≡ n * 256 ^ length bs + number_from_digits 256 bs
@@ -45,7 +45,7 @@ bytes-again (suc n) acc (x ∷ bs) l u =
     let small : number_from_digits 256 bs < 256 ^ n = subst (λ m. number_from_digits 256 bs < 256 ^ m) k (number_lt 256 bs u.1) in
     let high : number_from_digits_after 256 a bs / 256 ^ n ≡ a
     = ap (λ m. m / 256 ^ n) (number-after a bs ∙ ap (λ m. a * 256 ^ m + number_from_digits 256 bs) k) ∙ digits_div a small in
-    λ i. (ap (λ m. m % 256) high ∙ digits_mod acc u.0) i ∷ bytes-again n a bs k u.1 i
+    λ i. (byte_is n (number_from_digits_after 256 a bs) ∙ ap (λ m. m % 256) high ∙ digits_mod acc u.0) i ∷ bytes-again n a bs k u.1 i
 
 -- the same of a signed number
 signed-again : (w : Width) (n : ℕ) → 256 ^ n ≡ 2 ^ bits w → (bs : List ℕ) → length bs ≡ n → AreBytes bs → bytes_of n (of_z w (to_z w (unsigned bs))) ≡ bs

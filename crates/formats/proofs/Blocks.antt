@@ -1,11 +1,17 @@
 -- Bytes that are made up of blocks of one length.
-use Rattle.std.proofs.Common.{◌≡◌, ℕ, zero, suc, ◌+◌, ◌*◌, ◌<◌, List, [], ◌∷◌, ◌++◌, length, get_or, take, drop, ℤ, pos, sym, refl, ap, ◌∙◌, mul_assoc, mul-zero, mul-suc, arith, w64, of_z}
+use Rattle.std.proofs.Common.{◌≡◌, ℕ, zero, suc, ◌+◌, ◌*◌, ◌/◌, ◌%◌, ◌^◌, ◌<◌, List, [], ◌∷◌, ◌++◌, length, get_or, take, drop, ℤ, pos, sym, refl, ap, ◌∙◌, mul_assoc, mul-zero, mul-suc, div-one, arith, w64, of_z}
+use Rattle.std.specs.Int.{byte_at}
 use Rattle.std.specs.List.{range_with_len, flat_map}
 use Rattle.std.proofs.lemmas.List.FromFn.{length-range_with_len, get_or-range_with_len, map-range_with_len_more}
 use Rattle.std.proofs.lemmas.List.{drop-drop, take_at, drop_at, take-append-drop, length-append, length-drop, nil_from_length, flat_map_more, map-id}
 use Rattle.algebra.specs.Row.{Row}
 use Rattle.formats.specs.Bytes.{bytes_of, eight_bytes}
 use Rattle.formats.specs.Publication.{row_bytes, table_bytes}
+
+-- a byte of a number
+pub byte_is : (i n : ℕ) → byte_at i n ≡ n / 256 ^ i % 256
+byte_is zero n = ap (λ m. m % 256) (sym (div-one n))
+byte_is (suc i) n = refl
 
 pub length-bytes_of : (n x : ℕ) → length (bytes_of n x) ≡ n
 unfolding bytes_of

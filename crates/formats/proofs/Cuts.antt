@@ -12,7 +12,7 @@ use Rattle.shapes.specs.declared.shape.Shape.{Shape}
 use Rattle.shapes.proofs.Multiples.{rule as denominator-rule}
 use Rattle.formats.specs.Bytes.{bytes_at, signed_eight}
 use Rattle.formats.specs.NoisyTable.{kind_in, fanout_in, height_in, kind_rules}
-use Rattle.formats.specs.Publication.{publication, place_of, publication_length, denominator_in, row_from, published_row, header_rules, content_rules, published_rules, cut_rules, PublicationOf, NodePart, CutsBack}
+use Rattle.formats.specs.Publication.{publication, place_of, publication_length, denominator_in, row_from, published_row, header_rules, content_rules, published_rules, PublicationOf, NodePart, CutsBack}
 use Rattle.formats.proofs.Overlay.{place-room}
 use Rattle.formats.proofs.ReadBack.{bytes-within, reads-back}
 use Rattle.formats.proofs.Tables.{first-append, second_none}
@@ -34,9 +34,6 @@ module _ (kind w : ℕ) (t : List ℕ) where
       first-append (header_rules t ++ kind_rules kind (kind_in t)) content
       ∙ ap (λ o. option_or o (first content)) (first-append (header_rules t) (kind_rules kind (kind_in t)))
 
-  pub at-header : (d : Denial) → first (header_rules t) ≡ Some d → first (published_rules kind w t) ≡ Some d
-  at-header d e = all ∙ simp e
-
   at-content : (k b L D : ℕ) → PublicationOf t k b L D → first (header_rules t) ≡ None → first (kind_rules kind k) ≡ None
       → (o : Option Denial) → first (content_rules w b L D (length t)) ≡ o → first (published_rules kind w t) ≡ o
   at-content k b L D h header kinds o e =
@@ -56,9 +53,6 @@ module _ (kind w : ℕ) (t : List ℕ) where
       let L = height_in t in
       third-passed (is_some (first (shape_rules b L))) (not (eqb (denominator_in t) (denominator_of b L))) (length t) (publication_length w (size b L))
       (second_none (option_or (first (header_rules t)) (first (kind_rules kind (kind_in t)))) (first (content_rules w b L (denominator_in t) (length t))) (sym all ∙ e))
-
-  pub cut-refused : (v : ℕ) (d : Denial) → first (published_rules kind w t) ≡ Some d → first (cut_rules kind w t v) ≡ Some d
-  cut-refused v d e = first-append (published_rules kind w t) (rule (leb (size (fanout_in t) (height_in t)) v) NoSuchNode v ∷ []) ∙ simp e
 
   -- a node's numerators lie within
   pub node-within : (b L v n : ℕ) → first (published_rules kind w t) ≡ None → b ≡ fanout_in t → L ≡ height_in t → n ≡ size b L → v < n

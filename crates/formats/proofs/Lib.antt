@@ -3,6 +3,7 @@ pub mod Blocks
 pub mod Cuts
 pub mod Loads
 pub mod Made
+pub mod Named
 pub mod Marks
 pub mod Overlay
 pub mod ReadBack

@@ -1,31 +1,31 @@
 -- A noisy table is made of its rows, and its rows are read out of it.
 use Rattle.std.proofs.Common.{◌≡◌, ℕ, zero, suc, ◌+◌, ◌*◌, ◌/◌, ◌^◌, ◌<◌, ◌≤◌, not, eqb, ltb, List, [], ◌∷◌, ◌++◌, length, take, drop, ℤ, pos, negsuc, nat_abs, None, sym, refl, ap, ◌∙◌, subst, mod-lt, arith, w32, SFits, to_z, of_z}
 use Rattle.std.specs.List.{range_with_len, flat_map}
-use Rattle.std.specs.Option.{option_map, option_or}
+use Rattle.std.specs.Option.{option_or}
 use Rattle.std.proofs.ByRecursion.{All-append, All-drop}
 use Rattle.std.proofs.lemmas.List.{take-append-drop}
 use Rattle.std.proofs.lemmas.Slice.{between_to_end}
 use Rattle.std.proofs.lemmas.Int.{to_z-of_z}
 use Rattle.std.proofs.lemmas.Bool.{le-ltb, eq-eqb}
-use Rattle.algebra.specs.Row.{Row, part, tabulate, beyond, Within}
-use Rattle.denial.specs.Rules.{Rule, rule, rule_at, first}
+use Rattle.algebra.specs.Row.{Row, part, tabulate, Within}
+use Rattle.denial.specs.Rules.{Rule, rule, first}
 use Rattle.denial.specs.declared.reason.Reason.{Reason}
-use Rattle.denial.specs.declared.reason.Reason.TheVariants.{TableTooShort, WrongKind, WrongShape, WrongLength, LoadedBeyondLimit}
+use Rattle.denial.specs.declared.reason.Reason.TheVariants.{TableTooShort, WrongKind, WrongShape}
 use Rattle.shapes.specs.Laid.{entry_limit}
 use Rattle.shapes.specs.Tree.{size}
 use Rattle.formats.specs.Bytes.{AreBytes, bytes_at, signed, word, bytes_of, four_bytes}
-use Rattle.formats.specs.NoisyTable.{mark, kind_in, fanout_in, height_in, body_of, body_row, table_row, table_length, mark_rules, form_rules, kind_rules, like_rules, body_rules, load_rules, noisy_table, RowsWithin, LaysOut}
+use Rattle.formats.specs.NoisyTable.{mark, kind_in, fanout_in, height_in, body_of, body_row, table_row, mark_rules, form_rules, kind_rules, like_rules, body_rules, load_rules, noisy_table, RowsWithin, LaysOut}
 use Rattle.formats.proofs.Again.{row_made, table-made, four-again, rest-none, front-made}
-use Rattle.formats.proofs.Blocks.{length-bytes_of, rows_long, rows-block}
-use Rattle.formats.proofs.ReadBack.{bytes-taken, unsigned-back-four, row-read}
+use Rattle.formats.proofs.Blocks.{byte_is, length-bytes_of, rows_long, rows-block}
+use Rattle.formats.proofs.ReadBack.{unsigned-back-four, row-read}
 use Rattle.formats.proofs.Loads.{named, heading, loaded}
-use Rattle.formats.proofs.Tables.{first-none, second_none, body-whole}
-use Rattle.formats.proofs.Words.{tabulate-same, room-below, rows_none}
+use Rattle.formats.proofs.Tables.{first-none, second_none, body-answered, body-whole}
+use Rattle.formats.proofs.Words.{bytes-taken, tabulate-same, room-below, rows_none}
 
 bytes_of-bytes : (n x : ℕ) → AreBytes (bytes_of n x)
 unfolding bytes_of
 bytes_of-bytes zero x = tt
-bytes_of-bytes (suc n) x = (mod-lt (x / 256 ^ n) (omega arith), bytes_of-bytes n x)
+bytes_of-bytes (suc n) x = (subst (λ m. m < 256) (sym (byte_is n x)) (mod-lt (x / 256 ^ n) (omega arith)), bytes_of-bytes n x)
 
 joined_bytes : {X : Type 0} (f : X → List ℕ) → ((x : X) → AreBytes (f x)) → (xs : List X) → AreBytes (flat_map f xs)
 joined_bytes f h [] = tt
@@ -57,11 +57,7 @@ body_is t = between_to_end t 8 (length t) (omega arith)
 
 body-passed : (limit w n : ℕ) (body : List ℕ) → length body ≡ 4 * (w * n) → ((v : ℕ) → v < n → Within limit (body_row w body v))
     → first (body_rules limit w n body) ≡ None
-body-passed limit w n body l within =
-    let m = table_length w n in
-    let found = rule_at LoadedBeyondLimit (option_map (λ i. 8 + 4 * i) (beyond limit (tabulate (w * n) (word body)))) in
-    ap (λ x. first (rule (not x) WrongLength m ∷ found ∷ [])) (eq-eqb (8 + length body) m (omega arith))
-    ∙ ap (λ o. first (rule_at LoadedBeyondLimit (option_map (λ i. 8 + 4 * i) o) ∷ [])) (rows_none limit w n body within)
+body-passed limit w n body l within = body-answered limit w n body None l (sym (rows_none limit w n body within))
 
 like-passed : (b L : ℕ) → first (like_rules b L b L) ≡ None
 like-passed b L =
@@ -146,8 +142,8 @@ module _ (k w b L : ℕ) (t : List ℕ) (u : AreBytes t) (e : first (load_rules 
   made_again : noisy_table k b L (table_row w t) ≡ t
   made_again = (λ i. sym front i ++ (body-made ∙ body_is t) i) ∙ take-append-drop 8 t
 
-pub lays-out : LaysOut
-lays-out = record {
+pub lays_out : LaysOut
+lays_out = record {
   made = λ k w b L rows p q r held. (
     let body = joined_bytes (λ v. flat_map four_bytes (rows v)) (λ v. joined_bytes four_bytes (λ x. bytes_of-bytes 4 (of_z w32 x)) (rows v)) (range_with_len 0 (size b L)) in
         (omega arith, (omega arith, (omega arith, (omega arith, (omega arith, (p, (q, (r, body)))))))),

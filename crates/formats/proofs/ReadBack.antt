@@ -4,7 +4,7 @@ use native.Mathlib.Nat.{mod-one, pow-succ'}
 use lib.Arith.{mod-mul}
 use Rattle.std.specs.List.{flat_map}
 use Rattle.std.specs.Int.Digits.{number_from_digits_after}
-use Rattle.std.proofs.lemmas.List.{drop_more, drop-drop, take_at, drop_at, take_all, get_or-take, get_or-drop, length-append}
+use Rattle.std.proofs.lemmas.List.{drop-drop, take_at, drop_at, get_or-take, get_or-drop, length-append}
 use Rattle.std.proofs.lemmas.Int.{to_z-of_z}
 use Rattle.algebra.specs.Row.{Row, part, tabulate, row_at, Within}
 use Rattle.algebra.proofs.Places.{row_sized}
@@ -12,15 +12,10 @@ use Rattle.cells.specs.Calls.{carry_limit}
 use Rattle.shapes.specs.Tree.{size}
 use Rattle.formats.specs.Bytes.{bytes_at, unsigned, signed_eight, bytes_of, eight_bytes}
 use Rattle.formats.specs.Publication.{publication_header, row_bytes, table_bytes, publication, place_of, publication_length, row_from, OfCells, Says, ReadsBack}
-use Rattle.formats.proofs.Blocks.{length-bytes_of, eight-long, block, row-long, row-length, table-length, table-block}
-use Rattle.formats.proofs.Words.{row-tabulate}
+use Rattle.formats.proofs.Blocks.{byte_is, length-bytes_of, eight-long, block, row-long, table-length, table-block}
+use Rattle.formats.proofs.Words.{bytes-taken, row-tabulate}
 
--- the bytes from an offset on, in a list and in a part of one
-pub bytes-taken : (n at : ℕ) (xs : List ℕ) → at + n ≤ length xs → bytes_at xs at n ≡ take n (drop at xs)
-bytes-taken zero at xs h = refl
-bytes-taken (suc n) at xs h =
-    ap (λ t. get_or xs at 0 ∷ t) (bytes-taken n (at + 1) xs (omega arith)) ∙ sym (ap (take (suc n)) (drop_more xs at 0 (omega arith)))
-
+-- the bytes from an offset on, in a part of a list
 pub bytes-within : (n at m off : ℕ) (xs : List ℕ) → at + n ≤ m → bytes_at (take m (drop off xs)) at n ≡ bytes_at xs (off + at) n
 bytes-within zero at m off xs h = refl
 bytes-within (suc n) at m off xs h =
@@ -40,7 +35,8 @@ number-back (suc n) acc x =
     let some : 0 < 256 ^ n = pow-some n in
     let few : 0 < 256 = omega arith in
     let split : x % (256 * 256 ^ n) ≡ d * 256 ^ n + x % 256 ^ n = mod-mul x few some in
-    number-back n (acc * 256 + d) x
+    ap (λ y. number_from_digits_after 256 (acc * 256 + y) (bytes_of n x)) (byte_is n x)
+    ∙ number-back n (acc * 256 + d) x
     ∙ omega (arith, add-mul (acc * 256) d (256 ^ n), mul_assoc acc 256 (256 ^ n), split)
     ∙ ap (λ m. acc * m + x % m) (sym (pow-succ' 256 n))
 
@@ -81,9 +77,6 @@ module _ (enc : ℤ → List ℕ) (dec : List ℕ → ℤ) (c : ℕ) (long : (x 
 
 pub row_in : (w off : ℕ) (bytes : List ℕ) (r : Row) → length r ≡ w → Within carry_limit r → take (8 * w) (drop off bytes) ≡ row_bytes r → row_from w bytes off ≡ r
 row_in w off bytes r l within e = row-read eight_bytes signed_eight 8 eight-long w off bytes r l (λ i. signed_back (part r i) (within i)) e
-
-pub part-row : (w : ℕ) (r : Row) → length r ≡ w → Within carry_limit r → row_from w (row_bytes r) 0 ≡ r
-part-row w r l within = row_in w 0 (row_bytes r) r l within (take_all (8 * w) (row_bytes r) (omega (arith, row-length r)))
 
 pub header-length : (k b L D : ℕ) → length (publication_header k b L D) ≡ 16
 header-length k b L D = omega (arith, length-bytes_of 8 D)

@@ -1,13 +1,16 @@
 -- The words of a body, the rows that they make up, and the cells that are made of them.
-use Rattle.std.proofs.Common.{◌≡◌, ℕ, zero, suc, ◌+◌, ◌*◌, ◌/◌, ◌%◌, ◌<◌, ◌≤◌, true, false, ltb, ◌≢◌, List, [], ◌∷◌, length, drop, set, ℤ, pos, nat_abs, Some, None, Option, sym, refl, ap, ◌∙◌, ⊎_elim, mod-lt, mul_comm, div-lt_iff_lt-mul, mul-le-mul_left, zero-mul, mul-add, arith, below_more}
+use Rattle.std.proofs.Common.{◌≡◌, ℕ, zero, suc, ◌+◌, ◌-◌, ◌*◌, ◌/◌, ◌%◌, ◌<◌, ◌≤◌, Bool, cond, ltb, ◌≢◌, List, [], ◌∷◌, map, length, get_or, take, drop, set, ℤ, pos, nat_abs, Some, None, sym, refl, ap, ◌∙◌, ⊎_elim, mod-lt, mul_comm, div-lt_iff_lt-mul, mul-le-mul_left, zero-mul, mul-add, add-one, arith, below_more}
 use native.Mathlib.Nat.{div-add-mod}
-use Rattle.std.proofs.lemmas.List.{get_or-set_same, get_or-set_other, get_or_past, drop-set-lt}
+use Rattle.std.specs.List.{position, position_from}
+use Rattle.std.specs.Simd.{first_chunks}
+use Rattle.std.proofs.lemmas.Iterator.Adapters.{position_from-zero}
+use Rattle.std.proofs.lemmas.List.{drop_more, get_or-take, get_or-drop, get_or_past, length-drop, length-take-le, take-map, drop-map}
 use Rattle.std.proofs.lemmas.Bool.{cases_lt}
 use Rattle.algebra.specs.Row.{Row, part, tabulate, row_at, beyond, beyond_from, Within}
-use Rattle.algebra.proofs.Limits.{beyond-on, beyond-hit, beyond-end, none_within, within_none}
+use Rattle.algebra.proofs.Limits.{none_within, within_none}
 use Rattle.algebra.proofs.Places.{row_same, row_other}
 use Rattle.algebra.proofs.Rows.{tabulate-length}
-use Rattle.formats.specs.Bytes.{word}
+use Rattle.formats.specs.Bytes.{bytes_at, signed, word}
 use Rattle.formats.specs.NoisyTable.{body_row}
 
 -- a row that is tabulated, and its components
@@ -25,43 +28,75 @@ row-tabulate (suc w) f (x ∷ r) e h = λ j. h 0 (omega arith) j ∷ row-tabulat
 pub tabulate-same : (w : ℕ) (f g : ℕ → ℤ) → ((i : ℕ) → i < w → f i ≡ g i) → tabulate w f ≡ tabulate w g
 tabulate-same w f g e = row-tabulate w g (tabulate w f) (tabulate-length w f) (λ i h. part-tabulate w f i h ∙ e i h)
 
--- one more component is set
-pub parts_more : (f : ℕ → ℤ) (r s : Row) (i : ℕ) (x : ℤ) → i < length r → s ≡ set r i x → x ≡ f i
-    → ((j : ℕ) → j < i → part r j ≡ f j) → (j : ℕ) → j < i + 1 → part s j ≡ f j
-parts_more f r s i x h e p before =
-    below_more (λ j. part s j ≡ f j) i
-    (λ j l. let n : j ≢ i = omega arith in ap (λ t. part t j) e ∙ get_or-set_other r i j x (pos 0) n ∙ before j l)
-    (ap (λ t. part t i) e ∙ get_or-set_same r i x (pos 0) h ∙ p)
+-- the bytes from an offset on, in a list and in the rest of one
+pub bytes-taken : (n at : ℕ) (xs : List ℕ) → at + n ≤ length xs → bytes_at xs at n ≡ take n (drop at xs)
+bytes-taken zero at xs h = refl
+bytes-taken (suc n) at xs h =
+    ap (λ t. get_or xs at 0 ∷ t) (bytes-taken n (at + 1) xs (omega arith)) ∙ sym (ap (take (suc n)) (drop_more xs at 0 (omega arith)))
+
+bytes_at-drop : (n at off : ℕ) (xs : List ℕ) → bytes_at (drop off xs) at n ≡ bytes_at xs (off + at) n
+bytes_at-drop zero at off xs = refl
+bytes_at-drop (suc n) at off xs =
+    ap (λ x. x ∷ bytes_at (drop off xs) (at + 1) n) (get_or-drop off xs at 0)
+    ∙ ap (λ t. get_or xs (off + at) 0 ∷ t) (bytes_at-drop n (at + 1) off xs ∙ ap (λ k. bytes_at xs k n) (omega arith))
+
+-- the words of bytes that are cut into chunks of four
+pub words-tabulate : (n : ℕ) (body : List ℕ) → 4 * n ≤ length body → map signed (first_chunks 4 n body) ≡ tabulate n (word body)
+words-tabulate zero body h = refl
+words-tabulate (suc n) body h =
+    let here : signed (take 4 body) ≡ word body 0 = ap signed (sym (bytes-taken 4 0 body (omega arith))) in
+    let there : map signed (first_chunks 4 n (drop 4 body)) ≡ tabulate n (λ i. word body (suc i))
+    = words-tabulate n (drop 4 body) (omega (arith, length-drop 4 body))
+    ∙ tabulate-same n (word (drop 4 body)) (λ i. word body (suc i)) (λ i k. ap signed (bytes_at-drop 4 (4 * i) 4 body ∙ ap (λ m. bytes_at body m 4) (omega arith))) in
+    λ i. here i ∷ there i
+
+-- the words of one row, which end where the next row's begin
+pub row-words : (w w' v n : ℕ) (body : List ℕ) (words : List (List ℕ)) → w' ≡ w → words ≡ first_chunks 4 n body → 4 * n ≤ length body → w * v + w ≤ n
+    → map signed (take (w' * (v + 1) - w' * v) (drop (w' * v) words)) ≡ body_row w body v
+row-words w w' v n body words same cut h k =
+    let r = tabulate n (word body) in
+    let part : w * (v + 1) - w * v ≡ w = omega arith in
+    let long : length (take w (drop (w * v) r)) ≡ w = length-take-le w (drop (w * v) r) (omega (arith, length-drop (w * v) r, tabulate-length n (word body))) in
+    (λ i. map signed (take (same i * (v + 1) - same i * v) (drop (same i * v) (cut i))))
+    ∙ ap (λ m. map signed (take m (drop (w * v) (first_chunks 4 n body)))) part
+    ∙ sym (take-map signed w (drop (w * v) (first_chunks 4 n body)))
+    ∙ ap (take w) (sym (drop-map signed (w * v) (first_chunks 4 n body)))
+    ∙ ap (λ t. take w (drop (w * v) t)) (words-tabulate n body h)
+    ∙ row-tabulate w (λ i. word body (w * v + i)) (take w (drop (w * v) r)) long
+    (λ i l. get_or-take w (drop (w * v) r) i (pos 0) l ∙ get_or-drop (w * v) r i (pos 0) ∙ part-tabulate n (word body) (w * v + i) (omega arith))
 
 -- the scan for the first component that is over a limit
-module _ (limit count : ℕ) (f : ℕ → ℤ) (i : ℕ) where
-  abbrev from : ℕ → Option ℕ
-  from k = beyond_from limit k (drop k (tabulate count f))
+module _ {X : Type 0} (limit : ℕ) (f : X → ℤ) where
+  abbrev pub over : X → Bool
+  over x = ltb limit (nat_abs (f x))
 
-  pub scan-on : (x : ℤ) → i < count → x ≡ f i → false ≡ ltb limit (nat_abs x) → from i ≡ from (i + 1)
-  scan-on x h e p = beyond-on limit (tabulate count f) i x (omega (arith, tabulate-length count f)) (e ∙ sym (part-tabulate count f i h)) (sym p)
+  from : (i : ℕ) (xs : List X) → position_from over i xs ≡ beyond_from limit i (map f xs)
+  from i [] = refl
+  from i (x ∷ xs) = ap (cond (over x) (Some i)) (rw add-one (from (suc i) xs))
 
-  pub scan-hit : (x : ℤ) → i < count → x ≡ f i → true ≡ ltb limit (nat_abs x) → from i ≡ Some i
-  scan-hit x h e p = beyond-hit limit (tabulate count f) i x (omega (arith, tabulate-length count f)) (e ∙ sym (part-tabulate count f i h)) (sym p)
+  pub position-beyond : (xs : List X) → position over xs ≡ beyond limit (map f xs)
+  position-beyond xs = position_from-zero over xs ∙ from 0 xs
 
-  pub scan-end : count ≤ i → from i ≡ None
-  scan-end h = beyond-end limit (tabulate count f) i (omega (arith, tabulate-length count f))
+-- the first of the components of a body that is over a limit
+pub first-over : (limit n : ℕ) (body : List ℕ) (words : List (List ℕ)) → words ≡ first_chunks 4 (length body / 4) body → length body ≡ 4 * n
+    → position (over limit signed) words ≡ beyond limit (tabulate n (word body))
+first-over limit n body words e l =
+    let count : length body / 4 ≡ n = omega arith in
+    position-beyond limit signed words
+    ∙ ap (λ ws. beyond limit (map signed ws)) (e ∙ ap (λ m. first_chunks 4 m body) count)
+    ∙ ap (beyond limit) (words-tabulate n body (omega arith))
 
 -- a row before the last ends before the body does
 pub room-below : (w v n room : ℕ) → v < n → 4 * (w * n) ≤ room → 4 * (w * v + w) ≤ room
 room-below w v n room h l = let more : v + 1 ≤ n = omega arith in omega (arith, mul-le-mul_left w more, mul-add w v 1)
 
--- one more cell of the first n is filled
-pub rows_more : {K : Type 0} (row : K → Row) (w : ℕ) (body : List ℕ) (before cells : List K) (n v : ℕ) (c : K)
-    → v < n → v < length cells → row c ≡ body_row w body v
-    → ((u : ℕ) → u < v → row_at row cells u ≡ body_row w body u) × (drop n cells ≡ drop n before)
-    → ((u : ℕ) → u < v + 1 → row_at row (set cells v c) u ≡ body_row w body u) × (drop n (set cells v c) ≡ drop n before)
-rows_more row w body before cells n v c h l e inv = (
-  below_more (λ u. row_at row (set cells v c) u ≡ body_row w body u) v
-      (λ u k. let other : u ≢ v = omega arith in row_other row cells v u c other ∙ inv.0 u k)
-      (row_same row cells v c l ∙ e),
-  drop-set-lt n cells v c h ∙ inv.1,
-)
+-- one more cell is filled
+pub rows_more : {K : Type 0} (row : K → Row) (rows : ℕ → Row) (cells : List K) (v : ℕ) (c : K) → v < length cells → row c ≡ rows v
+    → ((u : ℕ) → u < v → row_at row cells u ≡ rows u) → (u : ℕ) → u < v + 1 → row_at row (set cells v c) u ≡ rows u
+rows_more row rows cells v c h e before =
+    below_more (λ u. row_at row (set cells v c) u ≡ rows u) v
+    (λ u k. let other : u ≢ v = omega arith in row_other row cells v u c other ∙ before u k)
+    (row_same row cells v c h ∙ e)
 
 -- where no component of n rows is over a limit, no row's is
 pub rows-within : (limit w n : ℕ) (body : List ℕ) → beyond limit (tabulate (w * n) (word body)) ≡ None

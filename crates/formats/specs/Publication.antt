@@ -42,6 +42,10 @@ place_of w v = 16 + 8 * (w * v)
 abbrev pub publication_length : ℕ → ℕ → ℕ
 publication_length w n = place_of w n
 
+-- How many bytes the publication of fan-out b and height L has, with rows of width w.
+abbrev pub laid_length : ℕ → ℕ → ℕ → ℕ
+laid_length w b L = publication_length w (size b L)
+
 abbrev pub denominator_in : List ℕ → ℕ
 denominator_in bytes = unsigned (bytes_at bytes 8 8)
 
@@ -54,7 +58,7 @@ published_row w bytes v = row_from w bytes (place_of w v)
 
 -- What bytes say, read as a publication of rows of width w.
 pub record Says (bytes : List ℕ) (k w b L D : ℕ) (rows : ℕ → Row) : Type 0 where
-  pub whole : length bytes ≡ publication_length w (size b L)
+  pub whole : length bytes ≡ laid_length w b L
   pub kind : kind_in bytes ≡ k
   pub fanout : fanout_in bytes ≡ b
   pub height : height_in bytes ≡ L
@@ -91,7 +95,7 @@ abbrev pub content_rules : ℕ → ℕ → ℕ → ℕ → ℕ → List Rule
 content_rules w b L D n =
     rule (is_some (first (shape_rules b L))) WrongShape 6
     ∷ rule (not (D == denominator_of b L)) WrongDenominator 8
-    ∷ rule (not (n == publication_length w (size b L))) WrongLength (publication_length w (size b L))
+    ∷ rule (not (n == laid_length w b L)) WrongLength (laid_length w b L)
     ∷ []
 
 -- Taking bytes as a publication of a kind of width w.

@@ -1,70 +1,57 @@
 // The components of a noisy table.
-ghost use Rattle.std.specs.Prelude.{◌≡◌, ℕ, ◌+◌, ◌*◌, ◌<◌, ◌≤◌, length, drop, IfSome, nat_lt, slice_set, unsigned_abs};
-ghost use Rattle.algebra.specs.Row.{tabulate, row_at, beyond};
+ghost use Rattle.std.specs.Prelude.{◌≡◌, position, ℕ, ◌+◌, ◌*◌, ◌<◌, ◌≤◌, length, map, drop, OnErr, nat_lt, slice_set, unsigned_abs};
+ghost use Rattle.algebra.specs.Row.{row_at};
 ghost use Rattle.denial.specs.Rules.{Answers};
-ghost use Rattle.shapes.specs.Laid.{entry_limit};
 ghost use Rattle.shapes.specs.Tree.{size};
-ghost use Rattle.formats.specs.Bytes.{word};
-ghost use Rattle.formats.specs.NoisyTable.{body_row, body_rules};
+ghost use Rattle.formats.specs.Bytes.{signed};
+ghost use Rattle.formats.specs.NoisyTable.{body_row, laid_rules, fill_rules, Filled};
 
+use crate::header::Header;
 use cells::Kind;
 use denial::{Denial, Reason};
 use shapes::Shape;
 
-const HEADER_BYTES: usize = 8;
+const TABLE_HEADER_BYTES: usize = 8;
 
 const COMPONENT_BYTES: usize = 4;
 
-// Component number n.
-fn component(components: &[u8], n: usize) -> i32
-    requires { 4 * n + 4 ≤ length components.now }
-    ensures { result ≡ word components.now n }
+// How many components the table of a shape has.
+pub(crate) fn component_count<K: Kind>(shape: Shape) -> usize
+    ensures { result ≡ K.width * size shape.fanout shape.height }
 {
-    let at = COMPONENT_BYTES * n;
-    i32::from_be_bytes([
-        components[at],
-        components[at + 1],
-        components[at + 2],
-        components[at + 3],
-    ])
+    K::width() * shape.nodes()
 }
 
-fn is_beyond(x: i32, limit: u32) -> bool
-    ensures { result ≡ nat_lt limit (unsigned_abs x) }
+// A function of its own, since with this test in the closure itself the proof did not close.
+fn is_beyond(word: &[u8; COMPONENT_BYTES], limit: u32) -> bool
+    ensures { result ≡ nat_lt limit (unsigned_abs (signed word.now)) }
 {
-    x.unsigned_abs() > limit
+    i32::from_be_bytes(*word).unsigned_abs() > limit
 }
 
-// The first of so many components that is over a limit, up to its sign.
-fn first_beyond(components: &[u8], count: usize, limit: u32) -> Option<usize>
-    requires { 4 * count ≤ length components.now }
-    ensures value { result ≡ beyond limit (tabulate count (word components.now)) }
-    ensures below { IfSome result (λ i. i < count) }
+// The first component that is over a limit, up to its sign.
+fn first_beyond(words: &[[u8; COMPONENT_BYTES]], limit: u32) -> Option<usize>
+    ensures { result ≡ position (λ word. nat_lt limit (unsigned_abs (signed word))) words.now }
 {
-    for i in 0..count {
-        if is_beyond(component(components, i), limit) {
-            return Some(i);
-        }
-    }
-    None
+    words.iter().position(|word| is_beyond(word, limit))
 }
 
 // Whether the components are those of a table of that shape, and within its entry limit.
 pub fn check_body<K: Kind>(components: &[u8], shape: Shape) -> Result<(), Denial>
-    ensures { Answers (body_rules (entry_limit shape.fanout shape.height) K.width (size shape.fanout shape.height) components.now) (λ _. Unit {0}) result }
+    ensures { Answers (laid_rules K.width shape.fanout shape.height components.now) (λ _. Unit {0}) result }
 {
-    let count = K::width() * shape.nodes();
-    let bytes = COMPONENT_BYTES * count;
+    let bytes = COMPONENT_BYTES * component_count::<K>(shape);
     if components.len() != bytes {
         return Err(Denial {
             reason: Reason::WrongLength,
-            place: (HEADER_BYTES + bytes) as u64,
+            place: (TABLE_HEADER_BYTES + bytes) as u64,
         });
     }
-    if let Some(i) = first_beyond(components, count, shape.entry_limit()) {
+    let (words, _) = components.as_chunks();
+    if let Some(i) = first_beyond(words, shape.entry_limit()) {
         return Err(Denial {
             reason: Reason::LoadedBeyondLimit,
-            place: (HEADER_BYTES + COMPONENT_BYTES * i) as u64,
+            place: (TABLE_HEADER_BYTES + COMPONENT_BYTES * i) as u64,
         });
     }
     Ok(())
@@ -78,28 +65,51 @@ fn with_component<K: Kind>(cell: K, i: usize, x: i32) -> K
     cell.set_component(i, i64::from(x)).unwrap()
 }
 
-// The cell of node v.
-pub(crate) fn cell_at<K: Kind>(components: &[u8], v: usize) -> K
-    requires { 4 * (K.width * v + K.width) ≤ length components.now }
-    ensures { K.Kind.row result ≡ body_row K.width components.now v }
+// The cell that has these components.
+fn cell_of<K: Kind>(words: &[[u8; COMPONENT_BYTES]]) -> K
+    requires { length words.now ≡ K.width }
+    ensures { K.Kind.row result ≡ map signed words.now }
 {
     let mut cell = K::zero();
-    let width = K::width();
-    for i in 0..width {
-        cell = with_component(cell, i, component(components, width * v + i));
+    for (i, word) in words.iter().enumerate() {
+        cell = with_component(cell, i, i32::from_be_bytes(*word));
     }
     cell
 }
 
-// Fills the first n cells of a slice.
-pub(crate) fn fill_cells<K: Kind>(components: &[u8], noisy: &mut [K], n: usize)
+// Fills the first n cells of a slice. (The count stays: that the cells past them are as they were is part of the promise.)
+fn fill_cells<K: Kind>(components: &[u8], noisy: &mut [K], n: usize)
     requires room { n ≤ length noisy.old }
     requires whole { 4 * (K.width * n) ≤ length components.now }
     ensures rows { (v : ℕ) → v < n → row_at K.Kind.row noisy.new v ≡ body_row K.width components.now v }
     ensures rest { drop n noisy.new ≡ drop n noisy.old }
     ensures same_length { length noisy.new ≡ length noisy.old }
 {
-    for v in 0..n {
-        noisy[v] = cell_at(components, v);
+    let width = K::width();
+    let (words, _) = components.as_chunks();
+    // By place: over a zip of `iter_mut` with the rows' words nothing would be known of the cells.
+    for (v, cell) in noisy[..n].iter_mut().enumerate() {
+        *cell = cell_of(&words[width * v..width * (v + 1)]);
+    }
+}
+
+impl Header<'_> {
+    // Fills the first cells of a slice with the components, where they are a table's of this shape. Nothing is written
+    // before all is checked.
+    pub(crate) fn fill_into<K: Kind>(self, shape: Shape, noisy: &mut [K]) -> Result<(), Denial>
+        ensures answer { Answers (fill_rules K.width shape.fanout shape.height (length noisy.old) self.entry.components.now) (λ _. Filled K.Kind.row K.width shape.fanout shape.height self.entry.components.now noisy.old noisy.new) result }
+        ensures kept { OnErr result (noisy.new ≡ noisy.old) }
+    {
+        let nodes = shape.nodes();
+        if noisy.len() < nodes {
+            return Err(Denial {
+                reason: Reason::SliceTooShort,
+                // the call's one slice of cells
+                place: 1,
+            });
+        }
+        check_body::<K>(self.components, shape)?;
+        fill_cells(self.components, noisy, nodes);
+        Ok(())
     }
 }

@@ -5,20 +5,20 @@ ghost use Rattle.formats.specs.NoisyTable.{fanout_in, height_in};
 ghost use Rattle.formats.specs.Publication.{row_from, published_row, header_rules, content_rules, published_rules, cut_rules, PublicationOf, NodePart};
 
 use crate::header::{Header, check_mark};
-use crate::publication::{COMPONENT_BYTES, HEADER_BYTES, MARK, publication_length};
+use crate::publication::{MARK, NUMERATOR_BYTES, PUBLICATION_HEADER_BYTES, publication_length};
 use cells::Kind;
 use denial::{Denial, Reason};
 use shapes::Shape;
 
 // What the header of a publication says.
-#[derive(Clone, Copy)]
+#[derive(Clone, Copy, PartialEq, Eq, Debug)]
 struct Published<'a> {
     header: Header<'a>,
     denominator: u64,
 }
 
 // The numerators of one node, and where in the publication they begin.
-#[derive(Clone, Copy)]
+#[derive(Clone, Copy, PartialEq, Eq, Debug)]
 pub struct Part<'a> {
     pub bytes: &'a [u8],
     pub offset: usize,
@@ -53,17 +53,16 @@ fn read_publication(publication: &[u8]) -> Result<Published<'_>, Denial>
             place: publication.len() as u64,
         });
     };
-    check_mark(*MARK, [*m0, *m1, *m2, *v0, *v1])?;
+    check_mark(MARK, [*m0, *m1, *m2], [*v0, *v1])?;
     let header = Header {
         kind: *kind,
         fanout: *fanout,
         height: *height,
         components,
     };
-    let denominator = u64::from_be_bytes([*d0, *d1, *d2, *d3, *d4, *d5, *d6, *d7]);
     Ok(Published {
         header,
-        denominator,
+        denominator: u64::from_be_bytes([*d0, *d1, *d2, *d3, *d4, *d5, *d6, *d7]),
     })
 }
 
@@ -72,12 +71,10 @@ impl Published<'_> {
     fn shape<K: Kind>(self, length: usize) -> Result<Shape, Denial>
         ensures { Answers (content_rules K.width self.entry.header.fanout self.entry.header.height self.entry.denominator length) (λ s. (s.fanout ≡ self.entry.header.fanout) × (s.height ≡ self.entry.header.height)) result }
     {
-        let Ok(shape) = self.header.shape() else {
-            return Err(Denial {
-                reason: Reason::WrongShape,
-                place: 6,
-            });
-        };
+        let shape = self.header.shape().map_err(|_| Denial {
+            reason: Reason::WrongShape,
+            place: 6,
+        })?;
         if self.denominator != shape.denominator() {
             return Err(Denial {
                 reason: Reason::WrongDenominator,
@@ -118,9 +115,9 @@ pub fn cut<K: Kind>(publication: &[u8], node: u32) -> Result<Part<'_>, Denial>
         });
     }
     let width = K::width();
-    let offset = HEADER_BYTES + COMPONENT_BYTES * (width * node);
+    let offset = PUBLICATION_HEADER_BYTES + NUMERATOR_BYTES * (width * node);
     Ok(Part {
-        bytes: &publication[offset..offset + COMPONENT_BYTES * width],
+        bytes: &publication[offset..offset + NUMERATOR_BYTES * width],
         offset,
     })
 }

@@ -3,10 +3,9 @@ ghost use Rattle.std.specs.Prelude.{◌≡◌, length, OnErr};
 ghost use Rattle.denial.specs.Rules.{Answers};
 ghost use Rattle.formats.specs.NoisyTable.{read_rules, TableRead};
 
-use crate::body::{check_body, fill_cells};
 use crate::header::read_header;
 use cells::Kind;
-use denial::{Denial, Reason};
+use denial::Denial;
 use shapes::Shape;
 
 // Reads a table into the first cells of a slice, and answers its shape. Nothing is written before all is checked.
@@ -17,14 +16,6 @@ pub fn read_table<K: Kind>(table: &[u8], noisy: &mut [K]) -> Result<Shape, Denia
     let header = read_header(table)?;
     header.check_kind::<K>()?;
     let shape = header.shape()?;
-    let nodes = shape.nodes();
-    if noisy.len() < nodes {
-        return Err(Denial {
-            reason: Reason::SliceTooShort,
-            place: 1,
-        });
-    }
-    check_body::<K>(header.components, shape)?;
-    fill_cells(header.components, noisy, nodes);
+    header.fill_into(shape, noisy)?;
     Ok(shape)
 }

@@ -1,6 +1,7 @@
 -- The counts that a sheet holds after a call.
 use Rattle.std.proofs.Common.{◌≡◌, ℕ, zero, suc, ◌+◌, ◌<◌, ◌≤◌, Bool, true, false, cond, not, ◌&&◌, eqb, ◌⊎◌, List, ◌∷◌, ◌++◌, map, length, get_or, drop, replicate, is_some, Some, None, Option, sym, refl, ap, ◌∙◌, inl, inr, add-one, arith}
 use Rattle.std.specs.List.{range_with_len}
+use Rattle.std.proofs.lemmas.Grind.{common_steps}
 use Rattle.std.proofs.lemmas.List.{get_or-set_same, get_or-set_other}
 use Rattle.std.proofs.lemmas.Bool.{cases_eq, eq-eqb, ne_eqb}
 use Rattle.algebra.specs.Row.{Row, row_at, beyond, Within}
@@ -63,9 +64,7 @@ module _ {K : Type 0} (row : K → Row) (most : ℕ) (c c' : Contents K) where
 
 -- a slice whose first n marks were written
 filled-front : (n m : ℕ) (xs : List ℕ) (v : ℕ) → v < n → get_or (replicate n m ++ xs) v 0 ≡ m
-filled-front zero m xs v h = absurd (omega arith)
-filled-front (suc n) m xs zero h = refl
-filled-front (suc n) m xs (suc v) h = filled-front n m xs v (omega arith)
+filled-front n m xs v h = grind (arith, common_steps)
 
 module _ {K : Type 0} (row : K → Row) (most : ℕ) (c c' : Contents K) where
   pub count-laid : (f : Form) → Laid f c c' → (v : ℕ) → v < nodes f → count_at row most c' v ≡ None
@@ -90,8 +89,8 @@ count-row row most c v r e = go (eqb (get_or c.marks v 0) 1) (beyond most (row_a
     go : (b : Bool) (o : Option ℕ) → beyond most (row_at row c.noisy v) ≡ o → cond (b && not (is_some o)) (Some (row_at row c.noisy v)) None ≡ Some r
         → (r ≡ row_at row c.noisy v) × (beyond most (row_at row c.noisy v) ≡ None)
     go true None p q = (cc, p)
-    go true (Some i) p q = let z : ◌≡◌ {A = ℕ} 0 1 = cc in absurd (omega arith)
-    go false o p q = let z : ◌≡◌ {A = ℕ} 0 1 = cc in absurd (omega arith)
+    go true (Some i) p q = absurd cc
+    go false o p q = absurd cc
 
 -- lists of counts
 pub counts_same : (f g : ℕ → Option Row) (a n : ℕ) → ((v : ℕ) → v < a + n → f v ≡ g v) → map f (range_with_len a n) ≡ map g (range_with_len a n)
@@ -105,7 +104,7 @@ none-empty f a (suc n) e v lo hi = go (f a) refl e (λ q l. none-empty f (a + 1)
   where
     go : (o : Option Row) → f a ≡ o → empty_from a (o ∷ map f (range_with_len (a + 1) n)) ≡ None
         → (empty_from (suc a) (map f (range_with_len (a + 1) n)) ≡ None → a + 1 ≤ v → is_some (f v) ≡ true) → is_some (f v) ≡ true
-    go None p q rest = let z : ◌≡◌ {A = ℕ} 0 1 = cc in absurd (omega arith)
+    go None p q rest = absurd cc
     go (Some r) p q rest = by (cases_eq v a)
       where
         by : (v ≡ a) ⊎ (v ≡ a → ⊥) → is_some (f v) ≡ true

@@ -1,6 +1,7 @@
 -- A sheet that holds what a history leaves holds, after a call, what the history with that call leaves.
 use Rattle.std.proofs.Common.{◌≡◌, ℕ, ◌<◌, ◌≤◌, Bool, true, false, cond, eqb, List, [], ◌∷◌, ◌++◌, length, drop, replicate, is_some, Some, None, Option, unwrap_or, sym, refl, ap, ◌∙◌, subst, arith}
-use Rattle.std.proofs.lemmas.List.{length-set, length-append, length-replicate, length-drop}
+use Rattle.std.proofs.lemmas.Grind.{common_steps}
+use Rattle.std.proofs.lemmas.List.{length-set}
 use Rattle.std.proofs.lemmas.Bool.{leb-false, ltb-false, false≢true}
 use Rattle.algebra.specs.Row.{Row, row_at, beyond, Within}
 use Rattle.denial.specs.Rules.{first}
@@ -67,7 +68,7 @@ module _ {K : Type 0} (c c' : Contents K) where
       same-rooms c c' (ap length d.noisy) (ap length d.marks ∙ length-set c.marks v 0) (ap length d.numerators) (ap length d.work)
 
   front_long : (n m : ℕ) → n ≤ length c.marks → length (replicate n m ++ drop n c.marks) ≡ length c.marks
-  front_long n m h = length-append (replicate n m) (drop n c.marks) ∙ omega (arith, length-replicate n m, length-drop n c.marks)
+  front_long n m h = grind (arith, common_steps)
 
   pub laid-rooms : (f : Form) → Laid f c c' → nodes f ≤ length c.marks → rooms c' ≡ rooms c
   laid-rooms f d h =

@@ -21,7 +21,7 @@ none_of None e = refl
 none_of (Some x) e = absurd (true≢false e)
 
 pub never-some : {A : Type 0} {x : A} {P : Type 0} → None ≡ Some x → P
-never-some e = let z : ◌≡◌ {A = ℕ} 0 1 = cc in absurd (omega arith)
+never-some e = absurd cc
 
 fitted-is : (f g : Form) (r : Rooms) → fitted f r ≡ Some g → (f ≡ g) × (roomy (nodes g) r ≡ true)
 fitted-is f g r e = go (roomy (nodes f) r) refl e

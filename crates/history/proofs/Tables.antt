@@ -1,5 +1,5 @@
 -- Tables of refusals: one after another, and one of which no row applies.
-use Rattle.std.proofs.Common.{◌≡◌, ℕ, Bool, true, false, cond, List, [], ◌∷◌, ◌++◌, Some, None, Option, sym, refl, ap, ◌∙◌, arith}
+use Rattle.std.proofs.Common.{◌≡◌, Bool, true, false, cond, List, [], ◌∷◌, ◌++◌, Some, None, Option, sym, refl, ap, ◌∙◌}
 use Rattle.std.specs.Option.{option_or}
 use Rattle.denial.specs.Rules.{Rule, first}
 use Rattle.denial.specs.declared.denial.Denial.{Denial}
@@ -14,7 +14,7 @@ none_passed [] e = tt
 none_passed (x ∷ xs) e = go x.when refl e (λ q. none_passed xs q)
   where
     go : (b : Bool) → x.when ≡ b → cond b (Some x.denial) (first xs) ≡ None → (first xs ≡ None → Passed xs) → (x.when ≡ false) × Passed xs
-    go true p q rest = let z : ◌≡◌ {A = ℕ} 0 1 = cc in absurd (omega arith)
+    go true p q rest = absurd cc
     go false p q rest = (p, rest q)
 
 -- what the first table refuses, both refuse

@@ -4,7 +4,7 @@ ghost use Rattle.history.specs.States.{next};
 
 use shapes::Shape;
 
-#[derive(Clone, Copy)]
+#[derive(Clone, Copy, PartialEq, Eq, Debug)]
 pub enum State {
     Unlaid,
     Filling(Shape),
@@ -12,7 +12,7 @@ pub enum State {
 }
 
 // What an accepted call does: it lays a shape, changes a count, or releases.
-#[derive(Clone, Copy)]
+#[derive(Clone, Copy, PartialEq, Eq, Debug)]
 pub enum Action {
     Lay(Shape),
     Change,
@@ -20,19 +20,16 @@ pub enum Action {
 }
 
 impl State {
-    // Only a lay takes a sheet out of the state unlaid. A change of a count withdraws a release.
+    // Only a lay takes a sheet out of the state unlaid. A change of a count withdraws a release. (The state matches itself and
+    // the action together, as the project has it.)
     pub fn advance(&mut self, action: Action)
         ensures { self.new ≡ next self.old action }
     {
         *self = match (*self, action) {
-            (_, Action::Lay(shape)) => State::Filling(shape),
-            (State::Unlaid, _) => State::Unlaid,
-            (State::Filling(shape) | State::Released(shape), Action::Change) => State::Filling(
-                shape,
-            ),
-            (State::Filling(shape) | State::Released(shape), Action::Release) => State::Released(
-                shape,
-            ),
+            (_, Action::Lay(shape)) => Self::Filling(shape),
+            (Self::Unlaid, _) => Self::Unlaid,
+            (Self::Filling(laid) | Self::Released(laid), Action::Change) => Self::Filling(laid),
+            (Self::Filling(laid) | Self::Released(laid), Action::Release) => Self::Released(laid),
         };
     }
 }

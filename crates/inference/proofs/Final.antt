@@ -1,19 +1,17 @@
 -- The table of the formulas is the nearest, for any counts with rows of width w at the nodes.
-use Rattle.std.proofs.Common.{◌≡◌, ℕ, zero, suc, ◌-◌, ◌*◌, ◌%◌, ◌<◌, ◌≤◌, length, ℤ, pos, ◌*ℤ◌, ◌<ℤ◌, sym, refl, ap, ◌∙◌, subst, arith}
+use Rattle.std.proofs.Common.{◌≡◌, ℕ, zero, suc, ◌*◌, ◌%◌, ◌<◌, ◌≤◌, length, ℤ, pos, ◌*ℤ◌, ◌<ℤ◌, sym, refl, ap, ◌∙◌, subst, arith}
 use native.Mathlib.Nat.{mod-eq-zero_of_dvd}
 use Rattle.algebra.specs.Row.{Row, ◌⊖◌, ◌⊙◌, Product}
 use Rattle.algebra.proofs.Rows.{rows_ext}
 use Rattle.algebra.proofs.Sums.{sum-ext}
 use Rattle.shapes.specs.Tree.{size, child}
+use Rattle.shapes.proofs.Heights.{inner}
 use Rattle.shapes.proofs.Sizes.{child-below}
 use Rattle.inference.specs.Table.{Table, Sized, over_children, AddsUp}
 use Rattle.inference.specs.Formulas.{X}
 use Rattle.inference.specs.Nearest.{distance, times, Nearest, Multiple, TreeNearest}
 use Rattle.inference.proofs.Agree.{X-agree, clip, clip-in, clip-sized}
 use Rattle.inference.proofs.Nearest.{X-adds, X-nearer}
-
-inner : (b l u : ℕ) → u < size b (suc l - 1) → u < size b l
-inner b l u h = let e : suc l - 1 ≡ l = omega arith in subst (λ (n : ℕ). u < size b n) e h
 
 -- what two tables with the same rows at the nodes share
 module _ (w b l : ℕ) (A B : Table) (same : (v : ℕ) → v < size b (suc l) → A v ≡ B v) where

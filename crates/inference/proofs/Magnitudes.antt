@@ -1,6 +1,6 @@
 -- How large the numbers of the two passes get: with every count within T, nothing exceeds 64 × D × T on a tree of height at most 10.
-use Rattle.std.proofs.Common.{◌≡◌, ℕ, zero, suc, ◌+◌, ◌-◌, ◌*◌, ◌/◌, ◌^◌, ◌<◌, ◌≤◌, pos, nat_abs, sym, ap, subst, mul-le-mul_left, div-add-mod', arith}
-use native.Mathlib.Nat.{pow-zero, pow-succ', one-le-pow}
+use Rattle.std.proofs.Common.{◌≡◌, ℕ, zero, suc, ◌+◌, ◌-◌, ◌*◌, ◌/◌, ◌^◌, ◌<◌, ◌≤◌, pos, nat_abs, sym, ap, subst, mul-le-mul_left, arith}
+use native.Mathlib.Nat.{pow-zero, pow-succ', one-le-pow, div-mul-le_self}
 use Rattle.std.proofs.lemmas.Nat.{mul-le}
 use Rattle.algebra.specs.Row.{Row, part, Within, ◌⊕◌, ◌⊖◌, ◌⊙◌}
 use Rattle.algebra.specs.Sum.{sum_rows}
@@ -10,9 +10,6 @@ use Rattle.shapes.proofs.Heights.{level-node, child-level, parent-level}
 use Rattle.inference.specs.Table.{Table, over_children}
 use Rattle.inference.specs.Formulas.{Z_at, share, C_at, X_at}
 use Rattle.inference.specs.Bounds.{Bounded, Magnitudes}
-
-div-le : (n m : ℕ) → n / m * m ≤ n
-div-le n m = omega (arith, div-add-mod' n m)
 
 -- L + (L − 1) + …, d numbers
 abbrev steps : ℕ → ℕ → ℕ
@@ -83,12 +80,9 @@ module _ (w b L D T : ℕ) (t : Table) (hb : 1 ≤ b) (tall : L ≤ 10) (over : 
   share-size : (m u i : ℕ) → Level b L (suc (suc m)) u → b ^ m * nat_abs (part (share w b D t (suc m) u) i) ≤ suc (suc m) * (D * T)
   share-size m u i o =
       share-most (b ^ m) (D / (size b (suc m) * size b (suc (suc m)))) (size b (suc m)) (size b (suc (suc m))) (b ^ suc m) (suc m) D T _ _
-      (omega arith) (omega arith) (omega arith) (div-le D (size b (suc m) * size b (suc (suc m))))
+      (omega arith) (omega arith) (omega arith) (div-mul-le_self D (size b (suc m) * size b (suc (suc m))))
       (times-size (D / (size b (suc m) * size b (suc (suc m)))) (pos (size b (suc m)) ⊙ t u ⊖ over_children w b (Z_at w b t (suc m)) u) i)
       (rest-within m u o i)
-
-  power-low : (m : ℕ) → 1 ≤ b ^ m
-  power-low m = one-le-pow m b hb
 
   -- C at a node of height m + 1, d levels below the root
   carry-size : (d m v i : ℕ) → d + suc m ≡ L → Level b L (suc m) v → b ^ m * nat_abs (part (C_at w b L D t d v) i) ≤ steps L d * (D * T)
@@ -132,7 +126,7 @@ module _ (w b L D T : ℕ) (t : Table) (hb : 1 ≤ b) (tall : L ≤ 10) (over : 
 
   -- what stays within n × D × T even when a power of b multiplies it
   under-power : (m n : ℕ) (r : Row) → n ≤ 64 → ((i : ℕ) → b ^ m * nat_abs (part r i) ≤ n * (D * T)) → Within room r
-  under-power m n r h f i = omega (arith, f i, mul-le 1 (nat_abs (part r i)) (b ^ m) (nat_abs (part r i)) (power-low m) (omega arith), mul-le n (D * T) 64 (D * T) h (omega arith))
+  under-power m n r h f i = omega (arith, f i, mul-le 1 (nat_abs (part r i)) (b ^ m) (nat_abs (part r i)) (one-le-pow m b hb) (omega arith), mul-le n (D * T) 64 (D * T) h (omega arith))
 
   share-ok : (m u : ℕ) → Level b L (suc (suc m)) u → Within room (share w b D t (suc m) u)
   share-ok m u o = under-power m (suc (suc m)) _ (omega (arith, o.high, tall)) (λ i. share-size m u i o)
@@ -147,7 +141,7 @@ module _ (w b L D T : ℕ) (t : Table) (hb : 1 ≤ b) (tall : L ≤ 10) (over : 
   near_within m v o i =
       let q = D / size b (suc m) in
       let y = mul-le-mul_left q (Z-within m v o i) in
-      let x : q * b ^ m ≤ D = omega (arith, div-le D (size b (suc m)), mul-le q (b ^ m) q (size b (suc m)) (omega arith) (omega arith)) in
+      let x : q * b ^ m ≤ D = omega (arith, div-mul-le_self D (size b (suc m)), mul-le q (b ^ m) q (size b (suc m)) (omega arith) (omega arith)) in
       let z = mul-le (q * b ^ m) (suc m) D 10 x (omega (arith, o.high, tall)) in
       omega (arith, times-size q (Z_at w b t (suc m) v) i, y, mul-le (q * b ^ m * suc m) T (D * 10) T z (omega arith))
 

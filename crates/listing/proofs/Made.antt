@@ -1,7 +1,8 @@
 -- The text that is made of a table is its listing.
-use Rattle.std.proofs.Common.{◌≡◌, ℕ, zero, suc, ◌+◌, ◌<◌, true, List, [], ◌∷◌, ◌++◌, length, take, drop, Some, None, Err, Option, Result, sym, refl, ap, ◌∙◌, subst, arith}
+use Rattle.std.proofs.Common.{◌≡◌, ℕ, zero, suc, ◌+◌, ◌<◌, Bool, true, false, not, ◌||◌, cond, rules, List, [], ◌∷◌, ◌++◌, length, take, drop, Some, None, Err, Option, Result, sym, refl, ap, ◌∙◌, subst, arith}
 use Rattle.std.specs.List.{range_with_len, flat_map}
 use Rattle.std.specs.Option.{option_or}
+use Rattle.std.specs.Prelude.{◌==◌}
 use Rattle.std.proofs.lemmas.List.{take_at}
 use Rattle.algebra.specs.Row.{Row, row_at}
 use Rattle.denial.specs.Rules.{Rule, rule, first, denied}
@@ -11,10 +12,10 @@ use Rattle.shapes.specs.Denominator.{Denominator}
 use Rattle.shapes.specs.Tree.{size}
 use Rattle.shapes.specs.declared.shape.Shape.{Shape}
 use Rattle.inference.specs.Formulas.{X}
-use Rattle.formats.specs.NoisyTable.{kind_in, fanout_in, height_in, table_row, form_rules, read_rules, TableRead}
-use Rattle.formats.proofs.Tables.{at-form, first-append}
+use Rattle.formats.specs.NoisyTable.{kind_in, fanout_in, height_in, table_row, form_rules, read_rules, any_kind_rules, TableRead}
+use Rattle.formats.proofs.Tables.{first-append}
 use Rattle.listing_lines.specs.Lines.{first_line, node_line}
-use Rattle.listing.specs.Listing.{Listed, Tells, most_nodes, rules_at}
+use Rattle.listing.specs.Listing.{Listed, Tells, most_nodes, rules_at, table_rules, width_of}
 use Rattle.listing.specs.declared.halt.Halt.{Halt}
 use Rattle.listing.specs.declared.halt.Halt.TheVariants.{Denied}
 use Rattle.listing.specs.Text.{node_lines}
@@ -64,7 +65,20 @@ read_as kind w n table o e h = ap (λ (m : ℕ). first (read_rules kind w m tabl
 pub refused-so : {A : Type 0} (rules : List Rule) (P : A → Type 0) (r : Result A Halt) (y : Halt) (e : Denial) → first rules ≡ Some e → r ≡ Err y → y ≡ Denied e → Tells rules P r
 refused-so rules P r y e h p q = subst (Tells rules P) (sym (p ∙ ap Err q)) h
 
--- a header that is refused refuses the table, whatever its kind
-pub form-refused : (width : Option ℕ) (table : List ℕ) (e : Denial) → first (form_rules table) ≡ Some e → first (rules_at width table) ≡ Some e
-form-refused (Some w) table e h = at-form (kind_in table) w most_nodes table e h
-form-refused None table e h = first-append (form_rules table) (rule true WrongKind 5 ∷ []) ∙ ap (λ (o : Option Denial). option_or o (Some (denied WrongKind 5))) h
+-- a number that is no kind's has no width
+no_width : (n : ℕ) (e : Denial) → first (any_kind_rules n) ≡ Some e → (width_of n ≡ None) × (e ≡ denied WrongKind 5)
+no_width n e = by_cases (n == 1) (n == 2) (n == 3)
+  where
+    by_cases : (a b c : Bool) → cond (not (a || b || c)) (Some (denied WrongKind 5)) None ≡ Some e
+        → (cond {A = Option ℕ} a (Some 1) (cond b (Some 2) (cond c (Some 4) None)) ≡ None) × (e ≡ denied WrongKind 5)
+    by_cases true b c h = search rules
+    by_cases false true c h = search rules
+    by_cases false false true h = search rules
+    by_cases false false false h = (refl, search rules)
+
+-- The kind in a header is no kind's number, so that the table is refused.
+pub unknown-refused : (k : ℕ) (table : List ℕ) (e : Denial) → first (form_rules table) ≡ None → k ≡ kind_in table → first (any_kind_rules k) ≡ Some e → first (table_rules table) ≡ Some e
+unknown-refused k table e form same refused =
+    let (none, denies) = no_width k e refused in
+    ap (λ (w : Option ℕ). first (rules_at w table)) (ap width_of (sym same) ∙ none) ∙ first-append (form_rules table) (rule true WrongKind 5 ∷ [])
+    ∙ ap (λ (o : Option Denial). option_or o (Some (denied WrongKind 5))) form ∙ ap Some (sym denies)

@@ -48,4 +48,4 @@ Listing table text = MatchOption (first (table_rules table)) (ListedAt (width_of
 abbrev pub Tells : {A : Type 0} → List Rule → (A → Type 0) → Result A Halt → Type 0
 Tells rules P (Ok x) = (first rules ≡ None) × P x
 Tells rules P (Err (Denied e)) = first rules ≡ Some e
-Tells rules P (Err NoMemory) = Unit {0}
+Tells rules P (Err (NoMemory _)) = Unit {0}

@@ -5,12 +5,13 @@ ghost use Rattle.listing.specs.declared.halt.Halt.TheVariants.{Denied, NoMemory}
 use denial::Denial;
 use std::alloc::AllocError;
 
-#[derive(Drop)]
+#[derive(PartialEq, Eq, Debug, Drop)]
 pub(crate) enum Halt {
     Denied(Denial),
-    NoMemory,
+    NoMemory(AllocError),
 }
 
+// By hand, since the clauses of the callers name what `?` makes of each error.
 impl From<Denial> for Halt {
     ghost from_gives = { λ e r. r ≡ Denied e };
 
@@ -20,9 +21,9 @@ impl From<Denial> for Halt {
 }
 
 impl From<AllocError> for Halt {
-    ghost from_gives = { λ _ r. r ≡ NoMemory };
+    ghost from_gives = { λ e r. r ≡ NoMemory e };
 
-    fn from(_error: AllocError) -> Halt {
-        Halt::NoMemory
+    fn from(error: AllocError) -> Halt {
+        Halt::NoMemory(error)
     }
 }

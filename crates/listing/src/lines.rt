@@ -1,37 +1,18 @@
-// The lines of a listing, added to its text.
+// The listing of a solved table, and that of a refused one.
 ghost use Rattle.std.specs.Prelude.{◌≡◌, ◌≤◌, ◌++◌, length, IfOk};
 ghost use Rattle.algebra.specs.Row.{row_at};
 ghost use Rattle.shapes.specs.Tree.{size};
-ghost use Rattle.listing_lines.specs.Lines.{first_line, node_line, refusal_line};
-ghost use Rattle.listing.specs.Text.{node_lines, Grows, GrowsBy};
+ghost use Rattle.listing_lines.specs.Lines.{first_line, refusal_line};
+ghost use Rattle.listing.specs.Text.{node_lines, GrowsBy};
 
 use cells::Kind;
 use denial::Denial;
-use listing_lines::{first_line, node_line, refusal_line};
+use listing_lines::{first_line_text, node_line_text, refusal_line_text};
 use shapes::Shape;
 use std::alloc::{AllocError, Global};
 
-// No line is longer.
-const LONGEST: usize = 357;
-
-fn add_first(text: &mut Vec<u8>, kind: u8, shape: Shape, d: u64) -> Result<(), AllocError>
-    ensures { Grows text.old.items (first_line kind shape.fanout shape.height d) result text.new.items }
-{
-    let mut line = [0; LONGEST];
-    let len = first_line(kind, shape.fanout as u32, shape.height as u32, d, &mut line).unwrap();
-    text.extend_from_slice(&line[0..len])
-}
-
-fn add_node<K: Kind>(text: &mut Vec<u8>, node: u32, cell: K, d: u64) -> Result<(), AllocError>
-    requires { 1 ≤ d }
-    ensures { Grows text.old.items (node_line node (K.Kind.row cell) d) result text.new.items }
-{
-    let mut line = [0; LONGEST];
-    let len = node_line(node, cell, d, &mut line).unwrap();
-    text.extend_from_slice(&line[0..len])
-}
-
-// The lines of the first n nodes.
+// The lines of the first n nodes. (The count stays: the rows are told of all the numerators, and would have to be told again of
+// a part of them.)
 fn add_nodes<K: Kind>(
     text: &mut Vec<u8>,
     numerators: &[K],
@@ -43,8 +24,9 @@ fn add_nodes<K: Kind>(
     requires within { n ≤ length numerators.now }
     ensures { GrowsBy text.old.items (node_lines (row_at K.Kind.row numerators.now) d) n result text.new.items }
 {
-    for v in 0..n {
-        add_node(text, v as u32, numerators[v], d)?;
+    for (v, cell) in numerators[..n].iter().enumerate() {
+        let line = node_line_text(v as u32, *cell, d).unwrap();
+        text.extend_from_slice(line.as_bytes())?;
     }
     Ok(())
 }
@@ -58,27 +40,19 @@ pub(crate) fn solved_text<K: Kind>(
 ) -> Result<Vec<u8>, AllocError>
     requires some { 1 ≤ d }
     requires within { size shape.fanout shape.height ≤ length numerators.now }
-    ensures { IfOk result (λ t. t.items ≡ first_line K.number shape.fanout shape.height d ++ node_lines (row_at K.Kind.row numerators.now) d (size shape.fanout shape.height)) }
+    ensures { IfOk result
+        (λ t. t.items ≡ first_line K.number shape.fanout shape.height d
+        ++ node_lines (row_at K.Kind.row numerators.now) d (size shape.fanout shape.height)) }
 {
-    let mut text = Vec::new(heap);
-    add_first(&mut text, K::number(), shape, d)?;
+    let first = first_line_text(K::number(), shape.fanout as u32, shape.height as u32, d);
+    let mut text = Vec::from_slice(heap, first.as_bytes())?;
     add_nodes(&mut text, numerators, shape.nodes(), d)?;
     Ok(text)
-}
-
-fn add_refusal(text: &mut Vec<u8>, denial: Denial) -> Result<(), AllocError>
-    ensures { Grows text.old.items (refusal_line denial) result text.new.items }
-{
-    let mut line = [0; LONGEST];
-    let len = refusal_line(denial, &mut line).unwrap();
-    text.extend_from_slice(&line[0..len])
 }
 
 // The one line of a refused table.
 pub(crate) fn refused_text(heap: Global, denial: Denial) -> Result<Vec<u8>, AllocError>
     ensures { IfOk result (λ t. t.items ≡ refusal_line denial) }
 {
-    let mut text = Vec::new(heap);
-    add_refusal(&mut text, denial)?;
-    Ok(text)
+    Vec::from_slice(heap, refusal_line_text(denial).as_bytes())
 }

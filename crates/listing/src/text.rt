@@ -1,37 +1,25 @@
 // The text that the program prints for a table.
-ghost use Rattle.std.specs.Prelude.{◌≡◌, map, replicate, IfOk, vec_len};
-ghost use Rattle.algebra.specs.Row.{zeros};
+ghost use Rattle.std.specs.Prelude.{IfOk};
 ghost use Rattle.formats.specs.NoisyTable.{kind_in, read_rules};
 ghost use Rattle.listing.specs.Listing.{Listed, ListedAt, Listing, Tells, table_rules, width_of, most_nodes};
 
 use crate::halt::Halt;
 use crate::lines::{refused_text, solved_text};
-use cells::{Four, Kind, Pair, Single};
-use denial::{Denial, Reason};
+use cells::{CellKind, Four, Kind, Pair, Single};
 use formats::{read_header, read_table};
 use solver::solve;
 use std::alloc::{AllocError, Global};
 
 const MOST_NODES: usize = 1023;
 
-fn zero_cells<K: Kind>(heap: Global, n: usize) -> Result<Vec<K>, AllocError>
-    ensures len { IfOk result (λ v. vec_len v ≡ n) }
-    ensures rows { IfOk result (λ v. map K.Kind.row v.items ≡ replicate n (zeros K.width)) }
-{
-    let mut cells = Vec::with_capacity(heap, n)?;
-    for i in 0..n {
-        cells.push(K::zero())?;
-    }
-    Ok(cells)
-}
-
 // The listing of a table of the kind K.
 fn table_text<K: Kind>(heap: Global, table: &[u8]) -> Result<Vec<u8>, Halt>
-    ensures { Tells (read_rules K.number K.width most_nodes table.now) (λ t. Listed K.number K.width table.now t.items) result }
+    ensures { Tells (read_rules K.number K.width most_nodes table.now)
+        (λ t. Listed K.number K.width table.now t.items) result }
 {
-    let mut noisy = zero_cells::<K>(heap, MOST_NODES)?;
-    let mut numerators = zero_cells::<K>(heap, MOST_NODES)?;
-    let mut work = zero_cells::<K>(heap, MOST_NODES)?;
+    let mut noisy = vec![in heap; K::zero(); MOST_NODES]?;
+    let mut numerators = vec![in heap; K::zero(); MOST_NODES]?;
+    let mut work = vec![in heap; K::zero(); MOST_NODES]?;
     let shape = read_table(table, noisy.as_mut_slice())?;
     let d = solve(
         shape,
@@ -43,19 +31,16 @@ fn table_text<K: Kind>(heap: Global, table: &[u8]) -> Result<Vec<u8>, Halt>
     Ok(text)
 }
 
-// The listing of a table of any kind.
+// The listing of a table of any kind. A match on the kind, since no closure is generic over it.
 fn any_text(heap: Global, table: &[u8]) -> Result<Vec<u8>, Halt>
-    ensures { Tells (table_rules table.now) (λ t. ListedAt (width_of (kind_in table.now)) table.now t.items) result }
+    ensures { Tells (table_rules table.now)
+        (λ t. ListedAt (width_of (kind_in table.now)) table.now t.items) result }
 {
     let header = read_header(table)?;
-    match header.kind {
-        1 => table_text::<Single>(heap, table),
-        2 => table_text::<Pair>(heap, table),
-        3 => table_text::<Four>(heap, table),
-        _ => Err(Halt::Denied(Denial {
-            reason: Reason::WrongKind,
-            place: 5,
-        })),
+    match header.cell_kind()? {
+        CellKind::Single => table_text::<Single>(heap, table),
+        CellKind::Pair => table_text::<Pair>(heap, table),
+        CellKind::Four => table_text::<Four>(heap, table),
     }
 }
 
@@ -66,6 +51,6 @@ pub fn listing(heap: Global, table: &[u8]) -> Result<Vec<u8>, AllocError>
     match any_text(heap, table) {
         Ok(text) => Ok(text),
         Err(Halt::Denied(denial)) => refused_text(heap, denial),
-        Err(Halt::NoMemory) => Err(AllocError),
+        Err(Halt::NoMemory(error)) => Err(error),
     }
 }

@@ -1,30 +1,30 @@
 -- The nearest whole number by its quotient and remainder, that it is one, and that there is no other.
-use Rattle.std.proofs.Common.{◌≡◌, ℕ, zero, suc, ◌+◌, ◌-◌, ◌*◌, ◌/◌, ◌%◌, ◌<◌, ◌≤◌, true, false, cond, leb, ℤ, pos, negsuc, neg_ℤ, nat_abs, ◌<ℤ◌, Some, None, sym, ap, ◌∙◌, subst, inl, inr, mul-le-mul_left, arith}
-use lib.Signed.{lt_z}
+use Rattle.std.proofs.Common.{◌≡◌, ℕ, zero, suc, ◌+◌, ◌-◌, ◌*◌, ◌/◌, ◌%◌, ◌<◌, ◌≤◌, cond, leb, ℤ, pos, negsuc, neg_ℤ, nat_abs, ◌≤ℤ◌, ◌<ℤ◌, Some, None, sym, ap, ◌∙◌, subst, inl, inr, mul-le-mul_left, arith}
+use mir.Val.{bool_byte}
 use Rattle.std.proofs.lemmas.Nat.{div-add-mod', div-mul-add, mod_below}
 use Rattle.std.proofs.lemmas.Int.{ints, by_lt_z}
-use Rattle.std.proofs.lemmas.Bool.{leb-true, leb-false, le-ltb, ne_eqb, cases_lt}
+use Rattle.std.proofs.lemmas.Bool.{le-leb, lt-leb, ne_eqb, cases_lt}
 use Rattle.denial.specs.Rules.{first, denied}
 use Rattle.denial.specs.declared.reason.Reason.TheVariants.{ZeroDenominator}
 use Rattle.listing_lines.specs.Nearest.{NearestWhole, OneNearest, gap, nearest, nearest_rules, nearest_size}
 
 module _ (m d : ℕ) where
-  -- the remainder is a half or more: one more than the quotient
-  pub goes-up : 0 < d → leb d (2 * (m % d)) ≡ true → m / d + 1 ≡ nearest_size m d
-  goes-up p h =
+  quotient-is : (k r : ℕ) → r < 2 * d → 2 * m + d ≡ k * (2 * d) + r → k ≡ nearest_size m d
+  quotient-is k r l e = sym (div-mul-add k (2 * d) r l) ∙ ap (λ x. x / (2 * d)) (sym e)
+
+  -- the quotient, and one more where the remainder is a half or more
+  pub rounded : (b : ℕ) → 0 < d → b ≡ bool_byte (leb (d - m % d) (m % d)) → m / d + b ≡ nearest_size m d
+  rounded b p e =
       let whole : m / d * d + m % d ≡ m = div-add-mod' m d in
       let below : m % d < d = mod_below m d p in
-      let over : d ≤ 2 * (m % d) = leb-true d (2 * (m % d)) h in
-      let e : 2 * m + d ≡ (m / d + 1) * (2 * d) + (2 * (m % d) - d) = omega arith in
-      sym (div-mul-add (m / d + 1) (2 * d) (2 * (m % d) - d) (omega arith)) ∙ ap (λ x. x / (2 * d)) (sym e)
-
-  -- else the quotient
-  pub stays : leb d (2 * (m % d)) ≡ false → m / d ≡ nearest_size m d
-  stays h =
-      let whole : m / d * d + m % d ≡ m = div-add-mod' m d in
-      let under : 2 * (m % d) < d = leb-false d (2 * (m % d)) h in
-      let e : 2 * m + d ≡ m / d * (2 * d) + (2 * (m % d) + d) = omega arith in
-      sym (div-mul-add (m / d) (2 * d) (2 * (m % d) + d) (omega arith)) ∙ ap (λ x. x / (2 * d)) (sym e)
+      elim (cases_lt (m % d) (d - m % d)) [
+        | inl l ↦
+            let none : b ≡ 0 = e ∙ ap bool_byte (lt-leb (d - m % d) (m % d) l) in
+            ap (λ x. m / d + x) none ∙ quotient-is (m / d + 0) (2 * (m % d) + d) (omega arith) (omega arith)
+        | inr l ↦
+            let one : b ≡ 1 = e ∙ ap bool_byte (le-leb (d - m % d) (m % d) l) in
+            ap (λ x. m / d + x) one ∙ quotient-is (m / d + 1) (2 * (m % d) - d) (omega arith) (omega arith)
+      ]
 
   -- nearest_size m d lies at most a half from m/d, and a half only from below
   pub size-near : 0 < d → (2 * (d * nearest_size m d) ≤ 2 * m + d) × (2 * m < 2 * (d * nearest_size m d) + d)
@@ -33,19 +33,6 @@ module _ (m d : ℕ) where
       let below : (2 * m + d) % (2 * d) < 2 * d = mod_below (2 * m + d) (2 * d) (omega arith) in
       let e : nearest_size m d * (2 * d) ≡ 2 * (d * nearest_size m d) = omega arith in
       (omega arith, omega arith)
-
-  pub size-most : 0 < d → nearest_size m d ≤ m
-  size-most p = elim (cases_lt m (nearest_size m d)) [
-    | inl l ↦
-        let near : 2 * (d * nearest_size m d) ≤ 2 * m + d = (size-near p).0 in
-        let far : d * suc m ≤ d * nearest_size m d = mul-le-mul_left d l in
-        let small : m * 1 ≤ m * d = mul-le-mul_left m p in
-        absurd (omega arith)
-    | inr l ↦ l
-  ]
-
-  pub size-bound : (k : ℕ) → 0 < d → k ≡ nearest_size m d → k ≤ m
-  size-bound k p e = omega (arith, size-most p)
 
 -- k is a nearest size for m/d
 abbrev Near : ℕ → ℕ → ℕ → Type 0
@@ -84,10 +71,14 @@ pub one-nearest : (n : ℤ) (d : ℕ) → OneNearest n d
 one-nearest n d r s R S =
     by_lt_z r s (λ l. absurd (ordered n d r s l R S)) (λ h. by_lt_z s r (λ l. absurd (ordered n d s r l S R)) (λ g. omega (arith, ints)))
 
--- the answer, from the size of the numerator and its sign
-pub by_sign : (n : ℤ) (d k : ℕ) → k ≡ nearest_size (nat_abs n) d → cond (lt_z n (pos 0)) (neg_ℤ (pos k)) (pos k) ≡ nearest n d
-by_sign (pos m) d k e = ap (λ b. cond b (neg_ℤ (pos k)) (pos k)) (le-ltb m 0 (omega arith)) ∙ ap pos e
-by_sign (negsuc m) d k e = ap (λ x. neg_ℤ (pos x)) e
+-- the answer, from the sign of the numerator and its size
+pub below-zero : (n : ℤ) (d k : ℕ) → n <ℤ pos 0 → k ≡ nearest_size (nat_abs n) d → neg_ℤ (pos k) ≡ nearest n d
+below-zero (pos m) d k l e = absurd (omega (arith, ints))
+below-zero (negsuc m) d k l e = ap (λ x. neg_ℤ (pos x)) e
+
+pub from-zero : (n : ℤ) (d k : ℕ) → pos 0 ≤ℤ n → k ≡ nearest_size (nat_abs n) d → pos k ≡ nearest n d
+from-zero (pos m) d k l e = ap pos e
+from-zero (negsuc m) d k l e = absurd (omega (arith, ints))
 
 pub accepted : (n : ℤ) (d : ℕ) (x : ℤ) → (d ≡ 0 → ⊥) → x ≡ nearest n d → (first (nearest_rules d) ≡ None) × ((x ≡ nearest n d) × NearestWhole n d x × OneNearest n d)
 accepted n d x h e = (

@@ -6,8 +6,9 @@ mod lines;
 mod node;
 mod rounding;
 
-pub use lines::{first_line, refusal_line};
-pub use node::node_line;
+pub use line::Line;
+pub use lines::{first_line, first_line_text, refusal_line, refusal_line_text};
+pub use node::{node_line, node_line_text};
 pub use rounding::nearest;
 
 #[cfg(test)]

@@ -1,112 +1,51 @@
 // A line of text that is made piece by piece, in an array of its own.
-ghost use Rattle.std.specs.Prelude.{◌≡◌, ◌≤◌, [], ◌∷◌, length, decimal};
-ghost use Rattle.std.specs.Fmt.{sign_text, signed_decimal};
+ghost use Rattle.std.specs.Prelude.{◌≡◌, ◌+◌, ◌≤◌, ◌∷◌, ◌++◌, length};
+ghost use Rattle.arrayvec.specs.ArrayString.{array_string_len};
 ghost use Rattle.denial.specs.Rules.{Answers};
 ghost use Rattle.listing_lines.specs.Buffer.{buffered, line_rules};
-ghost use Rattle.listing_lines.specs.Text.{Adds, Room, text};
+ghost use Rattle.listing_lines.specs.Text.{Room};
 
+use arrayvec::ArrayString;
 use denial::{Denial, Reason};
+use itoa::{Buffer, Integer};
 
-// 17 numbers of 20 characters at most, each with a space or a line feed.
+// No line is longer: 17 numbers of 20 characters at most, each with a space or a line feed.
 const LONGEST: usize = 357;
 
-#[derive(Drop)]
-pub struct Line {
-    bytes: [u8; LONGEST],
-    len: usize,
+pub type Line = ArrayString<LONGEST>;
+
+// A number.
+pub fn add_number<I: Integer>(line: &mut Line, n: I)
+    requires { Room line.old I.MAX_STR_LEN }
+    ensures adds { line.new.bytes ≡ line.old.bytes ++ I.text n }
+    ensures short { array_string_len line.new ≤ array_string_len line.old + I.MAX_STR_LEN }
+{
+    line.push_str(Buffer::new().format(n));
 }
 
-impl Line {
-    pub fn new() -> Self
-        ensures text { text result ≡ [] }
-        ensures len { result.len ≡ 0 }
-    {
-        Line {
-            bytes: [0; LONGEST],
-            len: 0,
-        }
-    }
+// A space, then a number.
+pub fn add_field<I: Integer>(line: &mut Line, n: I)
+    requires { Room line.old (1 + I.MAX_STR_LEN) }
+    ensures adds { line.new.bytes ≡ line.old.bytes ++ 32 ∷ I.text n }
+    ensures short { array_string_len line.new ≤ array_string_len line.old + 1 + I.MAX_STR_LEN }
+{
+    line.push(' ');
+    add_number(line, n);
+}
 
-    pub fn byte(&mut self, b: u8)
-        requires { Room self.old 1 }
-        ensures { Adds self.old (b ∷ []) self.new }
-    {
-        self.bytes[self.len] = b;
-        self.len += 1;
+// Puts the line at the front of `out`, and answers its length.
+pub fn copy_to(line: &Line, out: &mut [u8]) -> Result<usize, Denial>
+    ensures answers { Answers (line_rules line.now.bytes out.old) (λ n. n ≡ length line.now.bytes) result }
+    ensures buffer { out.new ≡ buffered line.now.bytes out.old result }
+{
+    let text = line.as_bytes();
+    let len = text.len();
+    if out.len() < len {
+        return Err(Denial {
+            reason: Reason::BufferTooShort,
+            place: len as u64,
+        });
     }
-
-    pub fn word(&mut self, bytes: &[u8])
-        requires { Room self.old (length bytes.now) }
-        ensures { Adds self.old bytes.now self.new }
-    {
-        for b in bytes {
-            self.byte(*b);
-        }
-    }
-
-    fn digits(&mut self, n: u64)
-        requires { Room self.old (length (decimal n)) }
-        ensures { Adds self.old (decimal n) self.new }
-    {
-        if n >= 10 {
-            self.digits(n / 10);
-        }
-        self.byte(b'0' + (n % 10) as u8);
-    }
-
-    pub fn number(&mut self, n: u64)
-        requires { Room self.old 20 }
-        ensures adds { Adds self.old (decimal n) self.new }
-        ensures short { length (decimal n) ≤ 20 }
-    {
-        self.digits(n);
-    }
-
-    // A space, then a number.
-    pub fn field(&mut self, n: u64)
-        requires { Room self.old 21 }
-        ensures adds { Adds self.old (32 ∷ decimal n) self.new }
-        ensures short { length (decimal n) ≤ 20 }
-    {
-        self.byte(b' ');
-        self.number(n);
-    }
-
-    // `-`, or nothing.
-    fn sign(&mut self, negative: bool)
-        requires { Room self.old 1 }
-        ensures { Adds self.old (sign_text negative) self.new }
-    {
-        if negative {
-            self.byte(b'-');
-        }
-    }
-
-    // A space, then a number that may be negative.
-    pub fn signed_field(&mut self, x: i64)
-        requires { Room self.old 21 }
-        ensures adds { Adds self.old (32 ∷ signed_decimal x) self.new }
-        ensures short { length (signed_decimal x) ≤ 20 }
-    {
-        self.byte(b' ');
-        self.sign(x < 0);
-        self.digits(x.unsigned_abs());
-    }
-
-    // Puts the line at the front of `out`, and answers its length.
-    pub fn copy_to(&self, out: &mut [u8]) -> Result<usize, Denial>
-        requires { Room self.now 0 }
-        ensures answers { Answers (line_rules (text self.now) out.old) (λ n. n ≡ length (text self.now)) result }
-        ensures buffer { out.new ≡ buffered (text self.now) out.old result }
-    {
-        let len = self.len;
-        if out.len() < len {
-            return Err(Denial {
-                reason: Reason::BufferTooShort,
-                place: len as u64,
-            });
-        }
-        out[0..len].copy_from_slice(&self.bytes[0..len]);
-        Ok(len)
-    }
+    out[..len].copy_from_slice(text);
+    Ok(len)
 }

@@ -1,9 +1,10 @@
 -- The height of a node, by the level on which it lies.
-use Rattle.std.proofs.Common.{◌≡◌, ℕ, zero, suc, ◌+◌, ◌-◌, ◌<◌, ◌≤◌, Bool, true, false, cond, ltb, sym, refl, ap, ◌∙◌, subst, add-zero, add-suc, arith}
+use Rattle.std.proofs.Common.{◌≡◌, ℕ, zero, suc, ◌+◌, ◌-◌, ◌<◌, ◌≤◌, Bool, true, false, cond, ltb, Option, Some, None, sym, refl, ap, ◌∙◌, subst, add-zero, add-suc, arith}
 use native.Mathlib.Decide.{dec_lt}
 use Rattle.std.proofs.lemmas.Bool.{lt-ltb, le-ltb}
 use Rattle.shapes.specs.Tree.{size, child, parent, height, Level, Heights}
 use Rattle.std.proofs.lemmas.Nat.{le-div, div_below}
+use Rattle.shapes.proofs.Firsts.{First}
 use Rattle.shapes.proofs.Sizes.{size-next, size-positive, size-le, child-below, child-above}
 
 pub height-in : (b l v : ℕ) → v < size b (suc l) → height b (suc l) v ≡ suc (height b l v)
@@ -69,26 +70,23 @@ levels b l u h =
     let e : height b l u ≡ suc (under b l u) = omega (arith, height-positive b l u h) in
     record { own = height-in b l u (omega arith) ∙ ap suc e; kids = λ j g. height-child b l u j g ∙ e; deep = omega (arith, height-le b l u) }
 
-inner : (b l u : ℕ) → u < size b (suc l - 1) → u < size b l
+pub inner : (b l u : ℕ) → u < size b (suc l - 1) → u < size b l
 inner b l u h = let e : suc l - 1 ≡ l = omega arith in subst (λ (n : ℕ). u < size b n) e h
 
 outer : (b l u : ℕ) → size b (suc l - 1) ≤ u → size b l ≤ u
 outer b l u h = let e : suc l - 1 ≡ l = omega arith in subst (λ (n : ℕ). size b n ≤ u) e h
 
-pub heights : (b L : ℕ) → 1 ≤ L → Heights b L (height b L)
-heights b zero one = absurd (omega arith)
-heights b (suc l) one = record {
+pub heights : (b L : ℕ) → Heights b L (height b L)
+heights b zero = record { leaf = λ v h. absurd (omega (arith, h.1)); parent = λ u j h g. absurd (omega (arith, h)) }
+heights b (suc l) = record {
   leaf = λ v h. height-leaf b l v (outer b l v h.0) h.1;
   parent = λ u j h g. (levels b l u (inner b l u h)).own ∙ ap suc (sym ((levels b l u (inner b l u h)).kids j g));
 }
 
--- the level above the one of height k
-pub level-up : (b L k v : ℕ) → k ≤ L → v < size b (L - k) → (suc k ≤ L) × (v < size b (suc (L - suc k)))
-level-up b L k v h lt = by (dec_lt k L)
-  where
-    by : Dec (k < L) → (suc k ≤ L) × (v < size b (suc (L - suc k)))
-    by (yes q) = (q, let e : L - k ≡ suc (L - suc k) = omega arith in subst (λ (n : ℕ). v < size b n) e lt)
-    by (no q) = absurd (let e : L - k ≡ 0 = omega arith in omega (arith, subst (λ (n : ℕ). v < size b n) e lt))
+-- the first k from 1 on with S_(L−k) ≤ v is the height of v
+pub first-level : (b L v : ℕ) (r : Option ℕ) → v < size b L → First 1 L (λ k. size b (L - k) ≤ v) (λ k. v < size b (L - k)) r → r ≡ Some (height b L v)
+first-level b L v None h m = grind (arith, m L, size b)
+first-level b L v (Some k) h m = grind (arith, height-at b L k v, m.3 (k - 1), size-le b L (suc (L - k)), size-le b (L - (k - 1)) (suc (L - k)))
 
 pub level-height : (b L k v : ℕ) → Level b L k v → height b L v ≡ k
 level-height b L k v o = height-at b L k v o.high o.from o.upto

@@ -1,3 +1,4 @@
 pub mod Sizes
 pub mod Heights
 pub mod Multiples
+pub mod Firsts

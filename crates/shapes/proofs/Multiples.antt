@@ -1,9 +1,11 @@
 -- The rule of the table of denominators, proved over all rows by one computed test.
-use Rattle.std.proofs.Common.{◌≡◌, ℕ, zero, suc, ◌+◌, ◌-◌, ◌*◌, ◌/◌, ◌%◌, ◌<◌, ◌≤◌, Bool, true, cond, not, ◌&&◌, eqb, ltb, leb, ◌⊎◌, List, [], ◌∷◌, length, get_or, sym, refl, ap, ◌∙◌, subst, inl, inr, ⊎_elim, le_of_suc-le-suc, not-suc-le-zero, mod-lt, mul_assoc, mul_comm, arith}
+use Rattle.std.proofs.Common.{◌≡◌, ℕ, zero, suc, ◌+◌, ◌-◌, ◌*◌, ◌/◌, ◌%◌, ◌<◌, ◌≤◌, Bool, true, cond, not, ◌&&◌, eqb, ltb, leb, ◌⊎◌, List, [], ◌∷◌, ◌++◌, map, replicate, length, get_or, Bor, sym, refl, ap, ◌∙◌, subst, inl, inr, ⊎_elim, le_of_suc-le-suc, not-suc-le-zero, mod-lt, mul_assoc, mul_comm, arith}
 use mathlib.Core.Logic.{∥∥₁_elim}
 use Prim.Native.Nat.{◌∣◌}
 use native.Mathlib.Nat.{div-add-mod, dvd_of_mod-eq-zero, mod-eq-zero_of_dvd, dvd-mul_right, dvd-mul_left_of_dvd, dvd-add_iff_right, one-dvd, ∣_prop}
 use Rattle.std.proofs.lemmas.Bool.{and_parts, cond-false, le-ltb, eqb-true, eqb-false, leb-true, ltb-true, not-true, cases_eq, cases_order}
+use Rattle.std.proofs.lemmas.Grind.{elements}
+use Rattle.std.proofs.lemmas.List.{length-map, get_or-map, get_or_past}
 use Rattle.shapes.specs.Tree.{size}
 use Rattle.shapes.specs.Laid.{Shapely}
 use Rattle.shapes.specs.Denominator.{Least, Denominator, largest, denominators, denominator_of}
@@ -143,3 +145,22 @@ rule b h s =
     subst (λ (n : ℕ). Denominator b n (get_or (get_or denominators (b - 2) []) (h - 1) 0)) eh
     (ladder-at b 0 1 (get_or denominators (b - 2) []) (start b) (subst (λ (n : ℕ). ladder n 0 1 (get_or denominators (b - 2) []) ≡ true) eb r.0) (h - 1)
     (omega (arith, r.1, s.3, s.2)) (subst (λ (n : ℕ). size b n ≤ 1023) (sym eh) s.4))
+
+-- ---- the table as the code has it, whose rows end where the shapes end
+
+-- a row with zeros for the heights that have no shape
+abbrev pub filled : Bor (List ℕ) → List ℕ
+filled r = r.now ++ replicate (10 - length r.now) 0
+
+read-filled : (r : List ℕ) (n i : ℕ) → get_or (r ++ replicate n 0) i 0 ≡ get_or r i 0
+read-filled r n i = grind (arith, elements, get_or_past)
+
+module _ (rows : List (Bor (List ℕ))) (d : Bor (List ℕ)) (b h : ℕ) (same : map filled rows ≡ denominators) (s : Shapely b h) where
+  pub entry-is : get_or (get_or rows (b - 2) d).now (h - 1) 0 ≡ denominator_of b h
+  entry-is =
+      let row : get_or denominators (b - 2) [] ≡ filled (get_or rows (b - 2) d) =
+      rw (← same) (get_or-map filled rows (b - 2) d [] (omega (arith, s.0, s.1, length-map rows filled, ap length same))) in
+      cc (read-filled (get_or rows (b - 2) d).now (10 - length (get_or rows (b - 2) d).now) (h - 1))
+
+  pub entry-in : h - 1 < length (get_or rows (b - 2) d).now
+  entry-in = grind (arith, entry-is, (rule b h s).low, get_or_past (get_or rows (b - 2) d).now (h - 1) 0)

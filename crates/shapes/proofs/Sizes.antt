@@ -25,16 +25,16 @@ size-some b k one = omega (arith, size-le b 1 k one, pow-zero b)
 pub size_few : (b k h : ℕ) → Shapely b h → k ≤ h → size b k ≤ 1023
 size_few b k h s l = omega (arith, size-le b k h l, s.4)
 
-pub power-few : (b k h : ℕ) → Shapely b h → k < h → b ^ k ≤ 1023
-power-few b k h s l = omega (arith, size_few b (suc k) h s l)
+pub power_few : (b k h : ℕ) → Shapely b h → k < h → b ^ k ≤ 1023
+power_few b k h s l = omega (arith, size_few b (suc k) h s l)
 
 size-wider : (b c k : ℕ) → b ≤ c → size b k ≤ size c k
 size-wider b c zero l = omega arith
 size-wider b c (suc k) l = omega (arith, size-wider b c k l, pow-le-pow_left l k)
 
 -- no tree of a fan-out up to 16 and a height up to 10 has more nodes than this
-pub size-most : (b k : ℕ) → b ≤ 16 → k ≤ 10 → size b k ≤ 73300775185
-size-most b k l h = omega (arith, size-wider b 16 k l, size-le 16 k 10 h)
+pub size_most : (b k : ℕ) → b ≤ 16 → k ≤ 10 → size b k ≤ 73300775185
+size_most b k l h = omega (arith, size-wider b 16 k l, size-le 16 k 10 h)
 
 pub parent_of : (b u j : ℕ) → j < b → parent b (child b u j) ≡ u
 parent_of b u j h = let e : b * u + 1 + j - 1 ≡ b * u + j = omega arith in
@@ -46,3 +46,6 @@ child-below b u j k h l = omega (arith, size-next b k, mul-le-mul_left b l)
 
 pub child-above : (b u j k : ℕ) → size b k ≤ u → size b (suc k) ≤ child b u j
 child-above b u j k l = omega (arith, size-next b k, mul-le-mul_left b l)
+
+-- what bounds a size or a power
+pub ruleset growth = (size-next, size_most, size_few, power_few)

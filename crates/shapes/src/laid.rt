@@ -12,12 +12,13 @@ const MOST_NODES: usize = 1023;
 const ENTRY_LIMIT: u32 = 1_000_000;
 
 // S_k, the nodes of a complete tree of that fan-out and of height k.
+#[tactic(auto, using(crate::proofs::Sizes::growth))]
 pub(crate) fn count(fanout: usize, k: usize) -> usize
     requires { (fanout ≤ 16) × (k ≤ 10) }
     ensures { result ≡ size fanout k }
 {
     let mut nodes = 0;
-    for i in 0..k {
+    for _ in 0..k {
         nodes = 1 + fanout * nodes;
     }
     nodes
@@ -28,13 +29,13 @@ impl Shape {
     pub fn new(fanout: u32, height: u32) -> Result<Self, Denial>
         ensures { Answers (shape_rules fanout height) (λ s. (s.fanout ≡ fanout) × (s.height ≡ height)) result }
     {
-        if fanout < 2 || fanout > 16 {
+        if !(2..=16).contains(&fanout) {
             return Err(Denial {
                 reason: Reason::FanoutRange,
                 place: u64::from(fanout),
             });
         }
-        if height < 1 || height > 10 {
+        if !(1..=10).contains(&height) {
             return Err(Denial {
                 reason: Reason::HeightRange,
                 place: u64::from(height),

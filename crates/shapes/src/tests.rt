@@ -1,23 +1,21 @@
 use crate::Shape;
 use std::test::Fail;
 
-// The number and the place of a refusal; two zeros where there is such a shape.
-fn refusal(fanout: u32, height: u32) -> (u8, u64) {
-    match Shape::new(fanout, height) {
-        Ok(_) => (0, 0),
-        Err(denial) => (denial.reason.number(), denial.place),
-    }
+// The number and the place of a refusal; none where there is such a shape.
+fn refusal(fanout: u32, height: u32) -> Option<(u8, u64)> {
+    let denial = Shape::new(fanout, height).err()?;
+    Some((denial.reason.number(), denial.place))
 }
 
 #[test]
 fn limits(rt: HostRuntime) {
-    assert_eq!(rt; refusal(2, 10), (0, 0));
-    assert_eq!(rt; refusal(16, 3), (0, 0));
-    assert_eq!(rt; refusal(1, 2), (11, 1));
-    assert_eq!(rt; refusal(17, 2), (11, 17));
-    assert_eq!(rt; refusal(2, 0), (12, 0));
-    assert_eq!(rt; refusal(2, 11), (12, 11));
-    assert_eq!(rt; refusal(3, 7), (13, 0));
+    assert_eq!(rt; refusal(2, 10), None);
+    assert_eq!(rt; refusal(16, 3), None);
+    assert_eq!(rt; refusal(1, 2), Some((11, 1)));
+    assert_eq!(rt; refusal(17, 2), Some((11, 17)));
+    assert_eq!(rt; refusal(2, 0), Some((12, 0)));
+    assert_eq!(rt; refusal(2, 11), Some((12, 11)));
+    assert_eq!(rt; refusal(3, 7), Some((13, 0)));
 }
 
 #[test]

@@ -1,6 +1,4 @@
 pub mod Never
-pub mod Writes
-pub mod Only
+pub mod Parts
 pub mod Upward
 pub mod Downward
-pub mod Moves

@@ -1,9 +1,9 @@
 -- A kind's call is not denied where the row that it answers is within the carry limit.
-use Rattle.std.proofs.Common.{◌≡◌, ℕ, true, cond, List, is_some, is_ok, Some, None, Ok, Err, Option, Result, unwrap_or, refl, ap, subst, arith}
+use Rattle.std.proofs.Common.{◌≡◌, ℕ, true, cond, is_some, is_ok, Some, None, Ok, Err, Option, Result, unwrap_or, refl, ap, arith}
 use Rattle.algebra.specs.Row.{Row, Within}
 use Rattle.algebra.proofs.Limits.{within_none}
 use Rattle.cells.specs.Calls.{carry_limit, carry_rules}
-use Rattle.denial.specs.Rules.{Rule, Answers, first, denied}
+use Rattle.denial.specs.Rules.{Answers, first, denied}
 use Rattle.denial.specs.declared.denial.Denial.{Denial}
 use Rattle.denial.specs.declared.reason.Reason.TheVariants.{BeyondCarryLimit}
 
@@ -13,6 +13,3 @@ held t P (Err e) a w =
     let n : first (carry_rules t) ≡ None = ap (λ (o : Option ℕ). cond (is_some o) (Some (denied BeyondCarryLimit (unwrap_or o 0))) None) (within_none carry_limit t w) in
     let z : ◌≡◌ {A = ℕ} 0 1 = cc in
     absurd (omega arith)
-
-pub taken : {K : Type 0} (rules : List Rule) (P : K → Type 0) (r : Result K Denial) (c : K) → Answers rules P r → r ≡ Ok c → P c
-taken rules P r c a e = (subst (λ (x : Result _ Denial). Answers rules P x) e a).1

@@ -1,4 +1,7 @@
-// A kind's arithmetic where the answer is within the carry limit, so that no call is denied.
+// A kind's arithmetic where the answer is within the carry limit, so that no call is denied. (Three functions, since one would
+// have to be told at each call which row it gives.)
+#![tactic(auto, using(crate::proofs::Never::held))]
+
 ghost use Rattle.std.specs.Prelude.{◌≡◌, ◌^◌, ◌<◌, pos};
 ghost use Rattle.algebra.specs.Row.{Within, ◌⊕◌, ◌⊖◌, ◌⊙◌};
 ghost use Rattle.cells.specs.Calls.{carry_limit};

@@ -1,51 +1,39 @@
 // X at every node, in the place of C.
-ghost use Rattle.std.specs.Prelude.{suc, ◌-◌, ◌≤◌};
-ghost use Rattle.algebra.specs.Row.{row_at};
-ghost use Rattle.cells.specs.Calls.{carry_limit};
-ghost use Rattle.inference.specs.Bounds.{Bounded};
-ghost use Rattle.shapes.specs.Denominator.{largest};
-ghost use Rattle.shapes.specs.Tree.{size};
-ghost use Rattle.solver.specs.Passes.{Raised, Lowered, Finished, Roomy, OnlyNumerators};
+ghost use Rattle.std.specs.Prelude.{◌≡◌, suc, ◌≤◌, length, drop};
+ghost use Rattle.solver.specs.Passes.{nodes, above, Lowered, Finished};
 
+use crate::gathered::Gathered;
 use crate::node::settled;
-use crate::slices::Slices;
 use cells::Kind;
-use shapes::Shape;
 
-impl<'a, K: Kind> Slices<'a, K> {
-    // X at the level of height k + 1.
-    fn finish_level(&mut self, shape: Shape, d: u64, k: usize)
-        requires level { suc k ≤ shape.height }
-        requires small { d ≤ largest }
-        requires roomy { Roomy (size shape.fanout shape.height) self.old }
-        requires bounded { Bounded K.width shape.fanout shape.height d carry_limit (row_at K.Kind.row self.old.noisy.now) }
-        requires raised { Raised K.Kind.row K.width shape.fanout shape.height (row_at K.Kind.row self.old.noisy.now) 0 self.old.work.now }
-        requires above { Finished K.Kind.row K.width shape.fanout shape.height d (row_at K.Kind.row self.old.noisy.now) (size shape.fanout (shape.height - suc k)) self.old.numerators.now }
-        ensures finished { Finished K.Kind.row K.width shape.fanout shape.height d (row_at K.Kind.row self.old.noisy.now) (size shape.fanout (shape.height - k)) self.new.numerators.now }
-        ensures only { OnlyNumerators (size shape.fanout shape.height) self.old self.new }
+// That the numerators have room stays a clause: they are lent apart, for writing, so that a contract speaks of one slice.
+impl<K: Kind> Gathered<'_, K> {
+    // X at the level of height k + 1, where X stands at the levels above.
+    fn finish_level(&self, k: usize, numerators: &mut [K])
+        requires level { suc k ≤ self.now.counts.shape.height }
+        requires room { nodes self.now.counts ≤ length numerators.old }
+        requires above { Finished self.now.counts (above self.now.counts (suc k)) numerators.old }
+        ensures finished { Finished self.now.counts (above self.now.counts k) numerators.new }
+        ensures past { drop (nodes self.now.counts) numerators.new ≡ drop (nodes self.now.counts) numerators.old }
     {
-        let factor = d / shape.size(k + 1) as u64;
-        let power = shape.power(k) as u64;
-        let first = shape.size(shape.height - (k + 1));
-        for v in first..shape.size(shape.height - k) {
-            let gathered = self.work[v];
-            let carried = self.numerators[v];
-            self.numerators[v] = settled(gathered, carried, factor, power);
+        let factor = self.counts.shape.denominator() / self.counts.shape.size(k + 1) as u64;
+        let power = self.counts.shape.power(k) as u64;
+        let (first, end) = self.counts.level(k);
+        // By number: a proof knows nothing of cells that were written through a zip of iter_mut, and to enumerate them counts too.
+        for v in first..end {
+            numerators[v] = settled(self.work[v], numerators[v], factor, power);
         }
     }
 
     // X at every node.
-    pub(crate) fn finish(&mut self, shape: Shape, d: u64)
-        requires small { d ≤ largest }
-        requires roomy { Roomy (size shape.fanout shape.height) self.old }
-        requires bounded { Bounded K.width shape.fanout shape.height d carry_limit (row_at K.Kind.row self.old.noisy.now) }
-        requires raised { Raised K.Kind.row K.width shape.fanout shape.height (row_at K.Kind.row self.old.noisy.now) 0 self.old.work.now }
-        requires lowered { Lowered K.Kind.row K.width shape.fanout shape.height d (row_at K.Kind.row self.old.noisy.now) (size shape.fanout shape.height) self.old.numerators.now }
-        ensures finished { Finished K.Kind.row K.width shape.fanout shape.height d (row_at K.Kind.row self.old.noisy.now) (size shape.fanout shape.height) self.new.numerators.now }
-        ensures only { OnlyNumerators (size shape.fanout shape.height) self.old self.new }
+    pub(crate) fn finish(&self, numerators: &mut [K])
+        requires room { nodes self.now.counts ≤ length numerators.old }
+        requires lowered { Lowered self.now.counts (nodes self.now.counts) numerators.old }
+        ensures finished { Finished self.now.counts (nodes self.now.counts) numerators.new }
+        ensures past { drop (nodes self.now.counts) numerators.new ≡ drop (nodes self.now.counts) numerators.old }
     {
-        for k in (0..shape.height).rev() {
-            self.finish_level(shape, d, k);
+        for k in (0..self.counts.shape.height).rev() {
+            self.finish_level(k, numerators);
         }
     }
 }

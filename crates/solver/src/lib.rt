@@ -2,11 +2,12 @@
 #![tactic(auto)]
 
 mod arith;
+mod counts;
 mod finish;
+mod gathered;
 mod lower;
 mod node;
 mod raise;
-mod slices;
 mod solution;
 
 pub use solution::solve;

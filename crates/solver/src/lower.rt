@@ -1,54 +1,49 @@
 // Downwards: C at every node, the root first.
-ghost use Rattle.std.specs.Prelude.{suc, ◌-◌, ◌≤◌};
-ghost use Rattle.algebra.specs.Row.{row_at};
-ghost use Rattle.cells.specs.Calls.{carry_limit};
-ghost use Rattle.inference.specs.Bounds.{Bounded};
-ghost use Rattle.shapes.specs.Denominator.{largest};
-ghost use Rattle.shapes.specs.Tree.{size};
-ghost use Rattle.solver.specs.Passes.{Raised, Lowered, Roomy, OnlyNumerators};
+ghost use Rattle.std.specs.Prelude.{◌≡◌, suc, ◌-◌, ◌≤◌, length, drop};
+ghost use Rattle.solver.specs.Passes.{nodes, above, Lowered};
 
+use crate::gathered::Gathered;
 use crate::node::{handed, spread};
-use crate::slices::Slices;
 use cells::Kind;
-use shapes::Shape;
 
-impl<'a, K: Kind> Slices<'a, K> {
+impl<K: Kind> Gathered<'_, K> {
     // C at the level of height k, where C stands at the levels above: each parent hands the same cell to all its children.
-    fn lower_level(&mut self, shape: Shape, d: u64, k: usize)
-        requires level { (1 ≤ k) × (suc k ≤ shape.height) }
-        requires small { d ≤ largest }
-        requires roomy { Roomy (size shape.fanout shape.height) self.old }
-        requires bounded { Bounded K.width shape.fanout shape.height d carry_limit (row_at K.Kind.row self.old.noisy.now) }
-        requires raised { Raised K.Kind.row K.width shape.fanout shape.height (row_at K.Kind.row self.old.noisy.now) 0 self.old.work.now }
-        requires above { Lowered K.Kind.row K.width shape.fanout shape.height d (row_at K.Kind.row self.old.noisy.now) (size shape.fanout (shape.height - k)) self.old.numerators.now }
-        ensures lowered { Lowered K.Kind.row K.width shape.fanout shape.height d (row_at K.Kind.row self.old.noisy.now) (size shape.fanout (suc (shape.height - k))) self.new.numerators.now }
-        ensures only { OnlyNumerators (size shape.fanout shape.height) self.old self.new }
+    fn lower_level(&self, k: usize, numerators: &mut [K])
+        requires low { 1 ≤ k }
+        requires high { suc k ≤ self.now.counts.shape.height }
+        requires room { nodes self.now.counts ≤ length numerators.old }
+        requires above { Lowered self.now.counts (above self.now.counts k) numerators.old }
+        ensures lowered { Lowered self.now.counts (above self.now.counts (k - 1)) numerators.new }
+        ensures past { drop (nodes self.now.counts) numerators.new ≡ drop (nodes self.now.counts) numerators.old }
     {
-        let fewer = shape.size(k) as u64;
-        let nodes = shape.size(k + 1) as u64;
-        let factor = d / (fewer * nodes);
-        let first = shape.size(shape.height - (k + 1));
-        for u in first..shape.size(shape.height - k) {
-            let own = self.noisy[u];
-            let gathered = self.work[u];
-            let carried = self.numerators[u];
-            let cell = handed(own, gathered, carried, nodes, factor);
-            spread(self.numerators, shape.fanout * u + 1, shape.fanout, cell);
+        let fanout = self.counts.shape.fanout;
+        let fewer = self.counts.shape.size(k) as u64;
+        let nodes = self.counts.shape.size(k + 1) as u64;
+        let factor = self.counts.shape.denominator() / (fewer * nodes);
+        let (first, end) = self.counts.level(k);
+        // By number, which says where a node's children lie.
+        for u in first..end {
+            let cell = handed(
+                self.counts.cells[u],
+                self.work[u],
+                numerators[u],
+                nodes,
+                factor,
+            );
+            let child = fanout * u + 1;
+            spread(&mut numerators[child..child + fanout], cell);
         }
     }
 
     // C at every node.
-    pub(crate) fn lower(&mut self, shape: Shape, d: u64)
-        requires small { d ≤ largest }
-        requires roomy { Roomy (size shape.fanout shape.height) self.old }
-        requires bounded { Bounded K.width shape.fanout shape.height d carry_limit (row_at K.Kind.row self.old.noisy.now) }
-        requires raised { Raised K.Kind.row K.width shape.fanout shape.height (row_at K.Kind.row self.old.noisy.now) 0 self.old.work.now }
-        ensures lowered { Lowered K.Kind.row K.width shape.fanout shape.height d (row_at K.Kind.row self.old.noisy.now) (size shape.fanout shape.height) self.new.numerators.now }
-        ensures only { OnlyNumerators (size shape.fanout shape.height) self.old self.new }
+    pub(crate) fn lower(&self, numerators: &mut [K])
+        requires room { nodes self.now.counts ≤ length numerators.old }
+        ensures lowered { Lowered self.now.counts (nodes self.now.counts) numerators.new }
+        ensures past { drop (nodes self.now.counts) numerators.new ≡ drop (nodes self.now.counts) numerators.old }
     {
-        self.numerators[0] = K::zero();
-        for k in (1..shape.height).rev() {
-            self.lower_level(shape, d, k);
+        numerators[0] = K::zero();
+        for k in (1..self.counts.shape.height).rev() {
+            self.lower_level(k, numerators);
         }
     }
 }

@@ -1,34 +1,32 @@
 // What is worked out at one node, and for its children.
-ghost use Rattle.std.specs.Prelude.{◌≡◌, ℕ, ◌+◌, ◌^◌, ◌<◌, ◌≤◌, length, pos};
+ghost use Rattle.std.specs.Prelude.{◌≡◌, ℕ, ◌^◌, ◌<◌, ◌≤◌, length, pos, replicate};
 ghost use Rattle.algebra.specs.Row.{Within, row_at, ◌⊕◌, ◌⊖◌, ◌⊙◌};
 ghost use Rattle.algebra.specs.Sum.{sum_rows};
 ghost use Rattle.cells.specs.Calls.{carry_limit};
-ghost use Rattle.solver.specs.Steps.{Lifts, Hands, Settles, Spread};
+ghost use Rattle.solver.specs.Steps.{Lifts, Hands, Settles};
 
 use crate::arith::{minus, plus, times};
 use cells::Kind;
 
-// The sum of n adjoining cells, from a place on. The slice stays as it is.
-pub(crate) fn gather<K: Kind>(cells: &mut [K], from: usize, n: usize) -> K
-    requires inside { from + n ≤ length cells.old }
-    requires within { (m : ℕ) → m ≤ n → Within carry_limit (sum_rows K.width m (λ j. row_at K.Kind.row cells.old (from + j))) }
-    ensures value { K.Kind.row result ≡ sum_rows K.width n (λ j. row_at K.Kind.row cells.old (from + j)) }
-    ensures same { cells.new ≡ cells.old }
+// The sum of some cells.
+pub(crate) fn gather<K: Kind>(cells: &[K]) -> K
+    requires { (m : ℕ) → m ≤ length cells.now → Within carry_limit (sum_rows K.width m (row_at K.Kind.row cells.now)) }
+    ensures { K.Kind.row result ≡ sum_rows K.width (length cells.now) (row_at K.Kind.row cells.now) }
 {
     let mut sum = K::zero();
-    for j in 0..n {
-        sum = plus(sum, cells[from + j]);
+    for cell in cells {
+        sum = plus(sum, *cell);
     }
     sum
 }
 
-// The same cell at n adjoining places.
-pub(crate) fn spread<K: Kind>(cells: &mut [K], from: usize, n: usize, cell: K)
-    requires { from + n ≤ length cells.old }
-    ensures { Spread K.Kind.row cells.old from n (K.Kind.row cell) cells.new }
+// The same cell at every place. (`fill` asks that a clone of the cell cannot fail, which a kind does not say, and with `fill_with`
+// the proof did not close.)
+pub(crate) fn spread<K: Kind>(cells: &mut [K], cell: K)
+    ensures { cells.new ≡ replicate (length cells.old) cell }
 {
-    for i in 0..n {
-        cells[from + i] = cell;
+    for slot in cells {
+        *slot = cell;
     }
 }
 

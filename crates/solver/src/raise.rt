@@ -1,57 +1,52 @@
 // Upwards: Z at every node, the lowest level first.
-ghost use Rattle.std.specs.Prelude.{ℕ, suc, ◌-◌, ◌≤◌};
-ghost use Rattle.algebra.specs.Row.{row_at};
-ghost use Rattle.cells.specs.Calls.{carry_limit};
-ghost use Rattle.inference.specs.Bounds.{Bounded};
-ghost use Rattle.shapes.specs.Tree.{size};
-ghost use Rattle.solver.specs.Passes.{Raised, Roomy, OnlyWork};
+ghost use Rattle.std.specs.Prelude.{◌≡◌, suc, ◌≤◌, length, drop};
+ghost use Rattle.solver.specs.Passes.{nodes, above, Raised};
 
+use crate::counts::Counts;
 use crate::node::{gather, lifted};
-use crate::slices::Slices;
 use cells::Kind;
-use shapes::Shape;
 
-impl<'a, K: Kind> Slices<'a, K> {
+// That the work cells have room stays a clause: they are lent apart, for writing, so that a contract speaks of one slice.
+impl<K: Kind> Counts<'_, K> {
     // Z at the leaves, which is their own count.
-    fn raise_leaves(&mut self, shape: Shape)
-        requires roomy { Roomy (size shape.fanout shape.height) self.old }
-        ensures raised { Raised K.Kind.row K.width shape.fanout shape.height (row_at K.Kind.row self.old.noisy.now) (size shape.fanout (shape.height - 1)) self.new.work.now }
-        ensures only { OnlyWork (size shape.fanout shape.height) self.old self.new }
+    fn raise_leaves(&self, work: &mut [K])
+        requires { nodes self.now ≤ length work.old }
+        ensures raised { Raised self.now (above self.now 1) work.new }
+        ensures past { drop (nodes self.now) work.new ≡ drop (nodes self.now) work.old }
     {
-        for v in (shape.size(shape.height - 1)..shape.nodes()).rev() {
-            let own = self.noisy[v];
-            self.work[v] = own;
-        }
+        let (first, end) = self.level(0);
+        work[first..end].copy_from_slice(&self.cells[first..end]);
     }
 
     // Z at the level of height k + 1, where Z stands at the levels below.
-    fn raise_level(&mut self, shape: Shape, k: usize)
-        requires level { (1 ≤ k) × (suc k ≤ shape.height) }
-        requires roomy { Roomy (size shape.fanout shape.height) self.old }
-        requires bounded { (d : ℕ) × Bounded K.width shape.fanout shape.height d carry_limit (row_at K.Kind.row self.old.noisy.now) }
-        requires below { Raised K.Kind.row K.width shape.fanout shape.height (row_at K.Kind.row self.old.noisy.now) (size shape.fanout (shape.height - k)) self.old.work.now }
-        ensures raised { Raised K.Kind.row K.width shape.fanout shape.height (row_at K.Kind.row self.old.noisy.now) (size shape.fanout (shape.height - suc k)) self.new.work.now }
-        ensures only { OnlyWork (size shape.fanout shape.height) self.old self.new }
+    fn raise_level(&self, k: usize, work: &mut [K])
+        requires low { 1 ≤ k }
+        requires high { suc k ≤ self.now.shape.height }
+        requires room { nodes self.now ≤ length work.old }
+        requires below { Raised self.now (above self.now k) work.old }
+        ensures raised { Raised self.now (above self.now (suc k)) work.new }
+        ensures past { drop (nodes self.now) work.new ≡ drop (nodes self.now) work.old }
     {
-        let power = shape.power(k) as u64;
-        let first = shape.size(shape.height - (k + 1));
-        for v in (first..shape.size(shape.height - k)).rev() {
-            let own = self.noisy[v];
-            let kids = gather(self.work, shape.fanout * v + 1, shape.fanout);
-            self.work[v] = lifted(own, power, kids);
+        let fanout = self.shape.fanout;
+        let power = self.shape.power(k) as u64;
+        let (first, end) = self.level(k);
+        // By number, which says where a node's children lie.
+        for u in (first..end).rev() {
+            let child = fanout * u + 1;
+            let kids = gather(&work[child..child + fanout]);
+            work[u] = lifted(self.cells[u], power, kids);
         }
     }
 
     // Z at every node.
-    pub(crate) fn raise(&mut self, shape: Shape)
-        requires roomy { Roomy (size shape.fanout shape.height) self.old }
-        requires bounded { (d : ℕ) × Bounded K.width shape.fanout shape.height d carry_limit (row_at K.Kind.row self.old.noisy.now) }
-        ensures raised { Raised K.Kind.row K.width shape.fanout shape.height (row_at K.Kind.row self.old.noisy.now) 0 self.new.work.now }
-        ensures only { OnlyWork (size shape.fanout shape.height) self.old self.new }
+    pub(crate) fn raise(&self, work: &mut [K])
+        requires { nodes self.now ≤ length work.old }
+        ensures raised { Raised self.now 0 work.new }
+        ensures past { drop (nodes self.now) work.new ≡ drop (nodes self.now) work.old }
     {
-        self.raise_leaves(shape);
-        for k in 1..shape.height {
-            self.raise_level(shape, k);
+        self.raise_leaves(work);
+        for k in 1..self.shape.height {
+            self.raise_level(k, work);
         }
     }
 }

@@ -6,26 +6,11 @@ ghost use Rattle.inference.specs.Nearest.{Nearest};
 ghost use Rattle.shapes.specs.Denominator.{Denominator};
 ghost use Rattle.shapes.specs.Laid.{entry_limit};
 ghost use Rattle.shapes.specs.Tree.{size};
-ghost use Rattle.solver.specs.Passes.{Roomy, Solved};
 
-use crate::slices::Slices;
+use crate::counts::Counts;
+use crate::gathered::Gathered;
 use cells::Kind;
 use shapes::Shape;
-
-impl<'a, K: Kind> Slices<'a, K> {
-    // The two passes, and X of them.
-    fn work_out(&mut self, shape: Shape) -> u64
-        requires roomy { Roomy (size shape.fanout shape.height) self.old }
-        requires counts { (v : ℕ) → v < size shape.fanout shape.height → Within (entry_limit shape.fanout shape.height) (row_at K.Kind.row self.old.noisy.now v) }
-        ensures { Solved K.Kind.row K.width K.product shape.fanout shape.height result self.old self.new }
-    {
-        let d = shape.denominator();
-        self.raise(shape);
-        self.lower(shape, d);
-        self.finish(shape, d);
-        d
-    }
-}
 
 // Fills the first N numerators with X over the denominator that it answers, for N nodes: the table that adds up and lies strictly
 // nearer to the noisy cells than any other. The first N work cells may be any cells after it; all other cells stay as they are.
@@ -41,10 +26,13 @@ pub fn solve<K: Kind>(shape: Shape, noisy: &mut [K], numerators: &mut [K], work:
     ensures counted { noisy.new ≡ noisy.old }
     ensures scratch { drop (size shape.fanout shape.height) work.new ≡ drop (size shape.fanout shape.height) work.old }
 {
-    let mut slices = Slices {
-        noisy,
-        numerators,
-        work,
+    let counts = Counts {
+        shape,
+        cells: noisy,
     };
-    slices.work_out(shape)
+    counts.raise(work);
+    let gathered = Gathered { counts, work };
+    gathered.lower(numerators);
+    gathered.finish(numerators);
+    shape.denominator()
 }

@@ -1,5 +1,4 @@
 pub mod Ended
-pub mod Marked
 pub mod Lending
 pub mod Lined
 pub mod Wider

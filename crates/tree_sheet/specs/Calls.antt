@@ -1,6 +1,6 @@
--- How each call on a tree sheet s ends, with the answer r, and s' after it. Cells mean rows by `row`; the kind has number k and width w.
-use Rattle.std.specs.Prelude.{ℕ, List, length, ℤ, Result}
-use Rattle.algebra.specs.Row.{Row}
+-- How each call on a tree sheet s of a kind of cell ends, with the answer r, and s' after it. Cells mean rows as the kind says.
+use Rattle.std.specs.Prelude.{ℕ, List, length, Result}
+use Rattle.cells.specs.declared.kind.Kind.{Ghosts as Kind}
 use Rattle.denial.specs.Rules.{Answers}
 use Rattle.denial.specs.declared.denial.Denial.{Denial}
 use Rattle.history.specs.Contents.{laid, rooms, facts}
@@ -12,34 +12,37 @@ use Rattle.history.specs.Replies.{Reply, Stepped}
 use Rattle.tree_sheet.specs.Held.{contents}
 use Rattle.tree_sheet.specs.declared.sheet.Sheet.{Sheet}
 
-module _ {K : Type 0} (row : K → Row) (s s' : Sheet K) where
+module _ {K : Type 0} (kind : Kind K) (s s' : Sheet K) where
   abbrev pub Lays : ℕ → ℕ → Result (Unit {0}) Denial → Type 0
   Lays b L r = Ends (lay_rules (rooms (contents s)) b L) (λ _. Laid (record { fanout = b; height = L }) (contents s) (contents s')) (contents s) (contents s') r
 
   abbrev pub Enters : ℕ → K → Result (Unit {0}) Denial → Type 0
-  Enters v x r = Ends (enter_rules (facts row (contents s)) v (row x)) (λ _. Entered v x (contents s) (contents s')) (contents s) (contents s') r
+  Enters v x r = Ends (enter_rules (facts kind.row (contents s)) v (kind.row x)) (λ _. Entered v x (contents s) (contents s')) (contents s) (contents s') r
 
   abbrev pub EntersWire : ℕ → K → Result (Unit {0}) Denial → Type 0
   EntersWire j x r =
-      Ends (enter_wire_rules (facts row (contents s)) j (row x)) (λ _. Entered (wire_node (laid (contents s)) j) x (contents s) (contents s')) (contents s) (contents s') r
+      Ends (enter_wire_rules (facts kind.row (contents s)) j (kind.row x)) (λ _. Entered (wire_node (laid (contents s)) j) x (contents s) (contents s')) (contents s) (contents s') r
 
   abbrev pub Strikes : ℕ → Result (Unit {0}) Denial → Type 0
-  Strikes v r = Ends (strike_rules (facts row (contents s)) v) (λ _. Struck v (contents s) (contents s')) (contents s) (contents s') r
+  Strikes v r = Ends (strike_rules (facts kind.row (contents s)) v) (λ _. Struck v (contents s) (contents s')) (contents s) (contents s') r
 
-  abbrev pub Loads : ℕ → ℕ → List ℕ → Result (Unit {0}) Denial → Type 0
-  Loads k w table r = Ends (load_rules k w (facts row (contents s)) table) (λ _. Loaded row w (nodes_of (laid (contents s))) table (contents s) (contents s')) (contents s) (contents s') r
+  abbrev pub Loads : List ℕ → Result (Unit {0}) Denial → Type 0
+  Loads table r =
+      Ends (load_rules kind.number kind.width (facts kind.row (contents s)) table)
+      (λ _. Loaded kind.row kind.width (nodes_of (laid (contents s))) table (contents s) (contents s')) (contents s) (contents s') r
 
-  abbrev pub Releases : ℕ → Result (Unit {0}) Denial → Type 0
-  Releases w r = Ends (release_rules (facts row (contents s))) (λ _. Frees row w (contents s) (contents s')) (contents s) (contents s') r
+  abbrev pub Releases : Result (Unit {0}) Denial → Type 0
+  Releases r = Ends (release_rules (facts kind.row (contents s))) (λ _. Frees kind.row kind.width (contents s) (contents s')) (contents s) (contents s') r
 
   -- What the call is to every history that the sheet may have had.
-  abbrev pub Carries : (k w : ℕ) → (Row → Row → ℤ) → Asked → Reply → Type 0
-  Carries k w dot a o = Stepped row k w dot (contents s) a o (contents s')
+  abbrev pub Carries : Asked → Reply → Type 0
+  Carries a o = Stepped kind.row kind.number kind.width kind.product (contents s) a o (contents s')
 
-module _ {K : Type 0} (row : K → Row) (s : Sheet K) where
+module _ {K : Type 0} (kind : Kind K) (s : Sheet K) where
   abbrev pub Reads : ℕ → Result (K × ℕ) Denial → Type 0
-  Reads v r = Answers (read_rules (facts row (contents s)) v) (λ p. Answered (contents s) v p.0 p.1) r
+  Reads v r = Answers (read_rules (facts kind.row (contents s)) v) (λ p. Answered (contents s) v p.0 p.1) r
 
   -- into a buffer, which is `after` then
-  abbrev pub Publishes : ℕ → ℕ → List ℕ → List ℕ → Result ℕ Denial → Type 0
-  Publishes k w before after r = Answers (publish_rules w (facts row (contents s)) (length before)) (λ n. Written row k w (contents s) n before after) r
+  abbrev pub Publishes : List ℕ → List ℕ → Result ℕ Denial → Type 0
+  Publishes before after r =
+      Answers (publish_rules kind.width (facts kind.row (contents s)) (length before)) (λ n. Written kind.row kind.number kind.width (contents s) n before after) r

@@ -1,4 +1,5 @@
 pub mod Held
+pub mod Slices
 pub mod Passes
 pub mod Calls
 pub mod Lines

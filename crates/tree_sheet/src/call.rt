@@ -2,7 +2,7 @@
 use cells::Kind;
 use denial::Denial;
 
-#[derive(Drop)]
+#[derive(PartialEq, Debug, Drop)]
 pub enum Call<K: Kind> {
     Lay { fanout: u32, height: u32 },
     Enter { node: u32, cell: K },
@@ -15,12 +15,15 @@ pub enum Call<K: Kind> {
     Publish { room: usize },
 }
 
-#[derive(Drop)]
-pub enum Outcome<K: Kind> {
+// What an accepted call answers.
+#[derive(PartialEq, Debug, Drop)]
+pub enum Answer<K: Kind> {
     Done,
-    Denied(Denial),
     // the numerators of a node, and the denominator
     Cell(K, u64),
     // the bytes that were written
     Publication(Vec<u8>),
 }
+
+// How a call ended: with its answer, or denied.
+pub type Outcome<K> = Result<Answer<K>, Denial>;

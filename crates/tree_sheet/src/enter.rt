@@ -1,10 +1,10 @@
 // Entering a count, and striking it.
-ghost use Rattle.std.specs.Prelude.{◌≡◌, ◌<◌, [], ◌∷◌, length, is_some, nat_lt, unsigned_abs};
-ghost use Rattle.algebra.specs.Row.{beyond, part};
+ghost use Rattle.std.specs.Prelude.{◌≡◌, ◌<◌, [], ◌∷◌, length, is_some};
+ghost use Rattle.algebra.specs.Row.{beyond};
 ghost use Rattle.denial.specs.Rules.{Answers, rule_at};
 ghost use Rattle.denial.specs.declared.reason.Reason.TheVariants.{EnteredBeyondLimit};
 ghost use Rattle.history.specs.Contents.{count_at};
-ghost use Rattle.history.specs.Effects.{Entered, Struck};
+ghost use Rattle.history.specs.Effects.{Entered};
 ghost use Rattle.history.specs.Events.{enter, enter_wire, strike};
 ghost use Rattle.history.specs.Replies.{told};
 ghost use Rattle.tree_sheet.specs.Calls.{Carries, Enters, EntersWire, Strikes};
@@ -13,28 +13,15 @@ ghost use Rattle.tree_sheet.specs.Passes.{Lent};
 
 use crate::marks::{EMPTY, FILLED};
 use crate::sheet::Sheet;
-use cells::Kind;
+use cells::{Components, Kind};
 use denial::{Denial, Reason};
 use history::Action;
-
-// Whether a component is over a limit, up to its sign.
-fn is_beyond<K: Kind>(cell: K, i: usize, limit: u32) -> bool
-    requires { i < K.width }
-    ensures { result ≡ nat_lt limit (unsigned_abs (part (K.Kind.row cell) i)) }
-{
-    cell.component(i).unwrap().unsigned_abs() > u64::from(limit)
-}
 
 // The first component of a cell that is over a limit, up to its sign.
 fn first_beyond<K: Kind>(cell: K, limit: u32) -> Option<usize>
     ensures { result ≡ beyond limit (K.Kind.row cell) }
 {
-    for i in 0..K::width() {
-        if is_beyond(cell, i, limit) {
-            return Some(i);
-        }
-    }
-    None
+    Components::of(cell).position(|x| x.unsigned_abs() > u64::from(limit))
 }
 
 // Whether a cell may be entered.
@@ -44,6 +31,7 @@ fn check_count<K: Kind>(cell: K, limit: u32) -> Result<(), Denial>
     if let Some(i) = first_beyond(cell, limit) {
         return Err(Denial {
             reason: Reason::EnteredBeyondLimit,
+            // `as`, since no `From` goes from a `usize`
             place: i as u64,
         });
     }
@@ -65,8 +53,8 @@ impl<'a, K: Kind> Sheet<'a, K> {
 
     // Enters a count at a node.
     pub fn enter(&mut self, node: u32, cell: K) -> Result<(), Denial>
-        ensures outcome { Enters K.Kind.row self.old self.new node cell result }
-        ensures history { Carries K.Kind.row self.old self.new K.number K.width K.product (enter node (K.Kind.row cell)) (told result) }
+        ensures outcome { Enters K.Kind self.old self.new node cell result }
+        ensures history { Carries K.Kind self.old self.new (enter node (K.Kind.row cell)) (told result) }
         ensures lent { Lent self.old self.new }
     {
         let shape = self.laid_node(node)?;
@@ -77,8 +65,8 @@ impl<'a, K: Kind> Sheet<'a, K> {
 
     // Enters a count at the node of a wire.
     pub fn enter_wire(&mut self, wire: u32, cell: K) -> Result<(), Denial>
-        ensures outcome { EntersWire K.Kind.row self.old self.new wire cell result }
-        ensures history { Carries K.Kind.row self.old self.new K.number K.width K.product (enter_wire wire (K.Kind.row cell)) (told result) }
+        ensures outcome { EntersWire K.Kind self.old self.new wire cell result }
+        ensures history { Carries K.Kind self.old self.new (enter_wire wire (K.Kind.row cell)) (told result) }
         ensures lent { Lent self.old self.new }
     {
         let shape = self.laid()?;
@@ -103,20 +91,10 @@ impl<'a, K: Kind> Sheet<'a, K> {
         self.marks[node] == FILLED && first_beyond(self.noisy[node], limit).is_none()
     }
 
-    // Empties a node.
-    fn empty(&mut self, node: usize)
-        requires { node < length self.old.marks.now }
-        ensures struck { Struck node (contents self.old) (contents self.new) }
-        ensures lent { Lent self.old self.new }
-    {
-        self.marks[node] = EMPTY;
-        self.state.advance(Action::Change);
-    }
-
     // Withdraws the count of a node.
     pub fn strike(&mut self, node: u32) -> Result<(), Denial>
-        ensures outcome { Strikes K.Kind.row self.old self.new node result }
-        ensures history { Carries K.Kind.row self.old self.new K.number K.width K.product (strike node) (told result) }
+        ensures outcome { Strikes K.Kind self.old self.new node result }
+        ensures history { Carries K.Kind self.old self.new (strike node) (told result) }
         ensures lent { Lent self.old self.new }
     {
         let shape = self.laid_node(node)?;
@@ -124,10 +102,11 @@ impl<'a, K: Kind> Sheet<'a, K> {
         if !self.is_filled(at, shape.entry_limit()) {
             return Err(Denial {
                 reason: Reason::NodeEmpty,
-                place: at as u64,
+                place: u64::from(node),
             });
         }
-        self.empty(at);
+        self.marks[at] = EMPTY;
+        self.state.advance(Action::Change);
         Ok(())
     }
 }

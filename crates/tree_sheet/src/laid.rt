@@ -1,9 +1,9 @@
 // What every call asks first: whether a shape is laid, whether it has the node, and whether its counts are released.
-ghost use Rattle.std.specs.Prelude.{◌≡◌, ℕ, ◌<◌, Some};
+ghost use Rattle.std.specs.Prelude.{◌≡◌, ◌<◌, [], ◌∷◌, Some};
 ghost use Rattle.denial.specs.Rules.{Answers};
-ghost use Rattle.history.specs.Contents.{facts, form_of, is_released, laid, rooms};
-ghost use Rattle.history.specs.Facts.{nodes, roomy};
-ghost use Rattle.history.specs.Refusals.{laid_rules, node_rules, released_rules};
+ghost use Rattle.history.specs.Contents.{facts, form_of, is_released, laid};
+ghost use Rattle.history.specs.Facts.{nodes};
+ghost use Rattle.history.specs.Refusals.{laid_rules, node_rules, released_rule, released_rules};
 ghost use Rattle.tree_sheet.specs.Held.{contents};
 
 use crate::sheet::Sheet;
@@ -13,26 +13,15 @@ use history::State;
 use shapes::Shape;
 
 impl<'a, K: Kind> Sheet<'a, K> {
-    // Whether each slice has room for n nodes.
-    fn has_room(&mut self, n: usize) -> bool
-        ensures value { result ≡ roomy n (rooms (contents self.old)) }
-        ensures same { self.new ≡ self.old }
-    {
-        n <= self.noisy.len()
-            && n <= self.marks.len()
-            && n <= self.numerators.len()
-            && n <= self.work.len()
-    }
-
     // The laid shape.
     pub(crate) fn laid(&mut self) -> Result<Shape, Denial>
         ensures answer { Answers (laid_rules (facts K.Kind.row (contents self.old))) (λ s. laid (contents self.old) ≡ Some (form_of s)) result }
         ensures same { self.new ≡ self.old }
     {
-        if let State::Filling(shape) | State::Released(shape) = self.state {
-            if self.has_room(shape.nodes()) {
-                return Ok(shape);
-            }
+        if let State::Filling(shape) | State::Released(shape) = self.state
+            && self.has_room(shape.nodes())
+        {
+            return Ok(shape);
         }
         Err(Denial {
             reason: Reason::Unlaid,
@@ -62,18 +51,27 @@ impl<'a, K: Kind> Sheet<'a, K> {
         matches!(self.state, State::Released(_))
     }
 
-    // The laid shape, where its counts are released.
-    pub(crate) fn released(&mut self) -> Result<Shape, Denial>
-        ensures answer { Answers (released_rules (facts K.Kind.row (contents self.old))) (λ s. laid (contents self.old) ≡ Some (form_of s)) result }
+    // Whether the counts are released.
+    pub(crate) fn check_released(&mut self) -> Result<(), Denial>
+        ensures answer { Answers (released_rule (facts K.Kind.row (contents self.old)) ∷ []) (λ _. Unit {0}) result }
         ensures same { self.new ≡ self.old }
     {
-        let shape = self.laid()?;
         if !self.is_released() {
             return Err(Denial {
                 reason: Reason::NotReleased,
                 place: 0,
             });
         }
+        Ok(())
+    }
+
+    // The laid shape, where its counts are released.
+    pub(crate) fn released(&mut self) -> Result<Shape, Denial>
+        ensures answer { Answers (released_rules (facts K.Kind.row (contents self.old))) (λ s. laid (contents self.old) ≡ Some (form_of s)) result }
+        ensures same { self.new ≡ self.old }
+    {
+        let shape = self.laid()?;
+        self.check_released()?;
         Ok(shape)
     }
 }

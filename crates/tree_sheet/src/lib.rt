@@ -11,12 +11,12 @@ mod making;
 mod marks;
 mod read;
 mod release;
+mod room;
 mod runs;
 mod sheet;
-mod solve;
 mod zeros;
 
-pub use call::{Call, Outcome};
+pub use call::{Answer, Call, Outcome};
 pub use runs::replay;
 pub use sheet::Sheet;
 pub use zeros::zero_cells;

@@ -26,7 +26,7 @@ impl<'a, K: Kind> Sheet<'a, K> {
         ensures buffer { out.new ≡ buffered (node_line_of K.Kind.row (contents self.old) node) out.old result }
         ensures same { self.new ≡ self.old }
     {
-        let seen = self.read(node)?;
-        listing_lines::node_line(node, seen.0, seen.1, out)
+        let (cell, denominator) = self.read(node)?;
+        listing_lines::node_line(node, cell, denominator, out)
     }
 }

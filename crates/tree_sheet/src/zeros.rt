@@ -5,14 +5,10 @@ ghost use Rattle.algebra.specs.Row.{zeros};
 use cells::Kind;
 use std::alloc::{AllocError, Global};
 
-// So many cells of zeros.
+// So many cells of zeros. `Vec::from_elem` copies by `clone`, of which a kind doesn't say that it gives the same cell.
 pub fn zero_cells<K: Kind>(heap: Global, n: usize) -> Result<Vec<K>, AllocError>
     ensures len { IfOk result (λ v. vec_len v ≡ n) }
     ensures rows { IfOk result (λ v. map K.Kind.row v.items ≡ replicate n (zeros K.width)) }
 {
-    let mut cells = Vec::with_capacity(heap, n)?;
-    for i in 0..n {
-        cells.push(K::zero())?;
-    }
-    Ok(cells)
+    (0..n).map(|_| K::zero()).collect(heap)
 }

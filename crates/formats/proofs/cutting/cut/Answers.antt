@@ -1,16 +1,7 @@
 use Rattle.std.proofs.Common.{ℕ, ◌*◌, ap, rules}
-use Rattle.std.proofs.lemmas.Result.{err_from_is_err_and}
 use Rattle.formats.specs.Publication.{NodePart}
-use Rattle.formats.proofs.Cuts.{cut-refused, node-within, part-reads}
+use Rattle.formats.proofs.Cuts.{node-within, part-reads}
 use Rattle.formats.proofs.cutting.cut.Goals as goal
-
-pub returns-in_err-shape : goal.returns-in_err-shape
-returns-in_err-shape g c =
-    let p = err_from_is_err_and c.from_residual.result c.from_residual.ensures.1 in
-    rw (p.1, p.2) (record {
-      answer = cut-refused g.K.Kind.number g.K.Kind.width c.args.publication.now c.args.node _ c.in_err-shape.ensures;
-      reads = tt;
-    })
 
 pub slice_bounds-result-end : goal.slice_bounds-result-end
 slice_bounds-result-end g c =

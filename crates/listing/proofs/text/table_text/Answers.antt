@@ -1,4 +1,4 @@
-use Rattle.std.proofs.Common.{◌≡◌, List, length, Some, None, vec_items, sym, ◌∙◌, subst, arith}
+use Rattle.std.proofs.Common.{◌≡◌, List, length, Some, None, vec_items, sym, ◌∙◌, subst}
 use Rattle.std.proofs.lemmas.Result.{err_from_is_err_and}
 use Rattle.algebra.specs.Row.{Within, row_at}
 use Rattle.formats.specs.NoisyTable.{read_rules}
@@ -17,19 +17,13 @@ returns-in_err-shape g c =
     refused-so (read_rules n w most_nodes table) (λ t. Listed n w table (vec_items t)) c.from_residual-in_err-shape.result p.0 c.in_err-shape.field-0.0
     (read_as n w (length c.as_mut_slice.result.now) table (Some c.in_err-shape.field-0.0) room c.in_err-shape.ensures.answer) p.1 p.2
 
-pub solve-d-requires : goal.solve-d-requires
-solve-d-requires g c =
+pub solve-d-requires-clause-counts : goal.solve-d-requires-clause-counts
+solve-d-requires-clause-counts g c =
     let s = c.in_ok-shape.shape in
     let read = c.in_ok-shape.ensures.answer.1 in
-    let room : length c.as_mut_slice.result.now ≡ most_nodes = c.as_mut_slice.ensures.len ∙ c.in_ok-noisy.ensures.len in
     let long : length c.read_table.new.noisy ≡ c.in_ok-noisy.noisy.len = read.same_length ∙ c.as_mut_slice.ensures.len in
     let same = refilled-is c.in_ok-noisy.noisy.len c.in_ok-noisy.noisy.items c.read_table.new.noisy c.as_mut_slice-2.result.now long c.as_mut_slice-2.ensures.value in
-    record {
-      noisy = omega (arith, s.shapely, c.as_mut_slice-2.ensures.len, c.in_ok-noisy.ensures.len);
-      numerators = omega (arith, s.shapely, c.as_mut_slice-3.ensures.len, c.in_ok-numerators.ensures.len);
-      work = omega (arith, s.shapely, c.as_mut_slice-4.ensures.len, c.in_ok-work.ensures.len);
-      counts = λ v h. subst (λ (xs : List _). Within (entry_limit s.fanout s.height) (row_at g.K.Kind.row xs v)) (sym same) (read.within v h);
-    }
+    λ v h. subst (λ (xs : List _). Within (entry_limit s.fanout s.height) (row_at g.K.Kind.row xs v)) (sym same) (read.within v h)
 
 pub returns : goal.returns
 returns g c =

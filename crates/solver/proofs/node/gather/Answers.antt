@@ -1,27 +1,19 @@
-use Rattle.std.proofs.Common.{◌≡◌, ℕ, suc, ◌+◌, sym, ap, ◌∙◌, subst, add-one, arith}
-use Rattle.algebra.specs.Row.{Row, Within, row_at, ◌⊕◌}
+use Rattle.std.proofs.Common.{◌≡◌, suc, ◌∙◌, sym, subst, add-one, arith}
+use Rattle.algebra.specs.Row.{Within, row_at, ◌⊕◌}
 use Rattle.algebra.specs.Sum.{sum_rows}
 use Rattle.algebra.proofs.Places.{row_read}
 use Rattle.cells.specs.Calls.{carry_limit}
 use Rattle.solver.proofs.node.gather.Given as given
 use Rattle.solver.proofs.node.gather.Goals as goal
-use Rattle.solver.proofs.node.gather.Goals.{After-index-cells-from}
+use Rattle.solver.proofs.node.gather.Goals.{After-cell-item}
 
 -- the sum with one more cell
-one_more : (g : given.Over) (c : goal.After-index-cells-from g) →
-    g.K.Kind.row c.loop-j.sum ⊕ g.K.Kind.row c.index-cells-from.result
-    ≡ sum_rows g.K.Kind.width (suc c.loop-j.j) (λ j. row_at g.K.Kind.row c.args.cells.now (c.args.from + j))
-one_more g c =
-    let row = g.K.Kind.row in
-    let xs = c.args.cells.now in
-    let i = c.loop-j.j in
-    let e = row_read row xs (c.args.from + i) c.index-cells-from.result (omega arith) c.index-cells-from.is in
-    ap (λ (r : Row). r ⊕ row c.index-cells-from.result) c.loop-j.invariant ∙ ap (λ (r : Row). sum_rows g.K.Kind.width i (λ j. row_at row xs (c.args.from + j)) ⊕ r) e
+one_more : (g : given.Over) (c : goal.After-cell-item g) →
+    g.K.Kind.row c.loop-cell.sum ⊕ g.K.Kind.row c.cell-item.result ≡ sum_rows g.K.Kind.width (suc c.loop-cell.cell-index) (row_at g.K.Kind.row c.args.cells.now)
+one_more g c = λ i. c.loop-cell.invariant i ⊕ row_read g.K.Kind.row c.args.cells.now c.loop-cell.cell-index c.cell-item.result (omega arith) c.cell-item.is i
 
 pub plus-sum-requires : goal.plus-sum-requires
-plus-sum-requires g c = subst (Within carry_limit) (sym (one_more g c)) (c.requires.within (suc c.loop-j.j) (omega arith))
+plus-sum-requires g c = subst (Within carry_limit) (sym (one_more g (goal.at.plus-sum-requires g c).After-cell-item)) (c.requires (suc c.loop-cell.cell-index) (omega arith))
 
-pub loop-j-preserved : goal.loop-j-preserved
-loop-j-preserved g c =
-    c.plus-sum.ensures ∙ one_more g (goal.at.loop-j-preserved g c).After-index-cells-from
-    ∙ ap (λ (n : ℕ). sum_rows g.K.Kind.width n (λ j. row_at g.K.Kind.row c.args.cells.now (c.args.from + j))) (sym (add-one c.loop-j.j))
+pub loop-cell-preserved : goal.loop-cell-preserved
+loop-cell-preserved g c = rw add-one (c.plus-sum.ensures ∙ one_more g (goal.at.loop-cell-preserved g c).After-cell-item)

@@ -1,5 +1,5 @@
-use Rattle.solver.specs.Steps.{Spread}
+use Rattle.std.proofs.Common.{◌≡◌, take, replicate}
 use Rattle.solver.proofs.node.spread.Given as goal
 
-abbrev pub invariant-loop-i : goal.invariant-loop-i
-invariant-loop-i g l = Spread g.K.Kind.row l.initial.cells l.from l.i (g.K.Kind.row l.cell) l.cells
+abbrev pub invariant-loop-slot : goal.invariant-loop-slot
+invariant-loop-slot g l = take l.slot-index l.slot-items ≡ replicate l.slot-index l.cell

@@ -7,5 +7,5 @@ use Rattle.tree_sheet.proofs.runs.replay.Given as goal
 
 abbrev pub invariant-loop-call : goal.invariant-loop-call
 invariant-loop-call g l =
-    Ran g.K.Kind.row g.K.Kind.number g.K.Kind.width g.K.Kind.product (rooms (contents l.initial.sheet)) l.calls l.call-index (vec_items l.log) l.sheet
+    Ran g.K.Kind (rooms (contents l.initial.sheet)) l.calls l.call-index (vec_items l.log) l.sheet
     × Lent l.initial.sheet l.sheet
