@@ -1,8 +1,7 @@
 -- The refusals of a kind's calls.
-use Rattle.std.specs.Prelude.{◌≡◌, ℕ, ◌<◌, Ok, Err, Result, List, [], ◌∷◌, ℤ, nat_le, nat_lt, unsigned_abs}
-use Rattle.algebra.specs.Row.{Row, beyond, part}
-use Rattle.denial.specs.Rules.{Rule, rule, rule_at, denied}
-use Rattle.denial.specs.declared.denial.Denial.{Denial}
+use Rattle.std.specs.Prelude.{ℕ, List, [], ◌∷◌, ℤ, nat_le, nat_lt, unsigned_abs}
+use Rattle.algebra.specs.Row.{Row, beyond}
+use Rattle.denial.specs.Rules.{Rule, rule, rule_at}
 use Rattle.denial.specs.declared.reason.Reason.TheVariants.{BeyondCarryLimit, NoSuchComponent}
 
 -- No component of a cell is larger, up to its sign.
@@ -23,12 +22,3 @@ replace_rules w i x =
 -- Making the cell of a row.
 abbrev pub carry_rules : Row → List Rule
 carry_rules r = rule_at BeyondCarryLimit (beyond carry_limit r) ∷ []
-
--- What is told of component i where it is to be y: that number, or that it is beyond the carry limit.
-abbrev pub Told : ℤ → ℕ → Result ℤ Denial → Type 0
-Told y i (Ok x) = x ≡ y
-Told y i (Err e) = (carry_limit < unsigned_abs y) × (e ≡ denied BeyondCarryLimit i)
-
--- A function, of whose answers `post` holds, tells the first w components of the row r.
-abbrev pub Tells : {F : Type 0} → (F → ℕ → Result ℤ Denial → Type 0) → F → ℕ → Row → Type 0
-Tells post told w r = (i : ℕ) (x : Result ℤ Denial) → i < w → post told i x → Told (part r i) i x

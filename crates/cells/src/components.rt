@@ -31,7 +31,11 @@ impl<K: Kind> Iterator for Components<K> {
     ghost remaining = { item_count (components_left K.Kind.row) };
 
     fn next(&mut self) -> Option<i64> {
-        let component = self.cell.component(self.next).ok()?;
+        // The width ends it, and not a denial, so that a loop over them can be unrolled for each kind.
+        if self.next >= K::width() {
+            return None;
+        }
+        let component = self.cell.component(self.next).unwrap();
         self.next += 1;
         Some(component)
     }

@@ -1,8 +1,8 @@
 // A kind of cell: what its cells mean, the product by which their distance is measured, and its calls.
-ghost use Rattle.std.specs.Prelude.{◌≡◌, ℕ, ◌<◌, ◌≤◌, length, ℤ, ◌+ℤ◌, ◌-ℤ◌, ◌*ℤ◌, slice_set};
+ghost use Rattle.std.specs.Prelude.{◌≡◌, ℕ, ◌<◌, ◌≤◌, length, ℤ, slice_set};
 ghost use Rattle.algebra.specs.Row.{Row, Product, Within, part, zeros, ◌⊕◌, ◌⊖◌, ◌⊙◌};
 ghost use Rattle.denial.specs.Rules.{Answers};
-ghost use Rattle.cells.specs.Calls.{carry_limit, component_rules, replace_rules, carry_rules, Tells, Told};
+ghost use Rattle.cells.specs.Calls.{carry_limit, component_rules, replace_rules, carry_rules};
 
 use crate::admission::beyond;
 use denial::Denial;
@@ -36,60 +36,41 @@ pub trait Kind: Copy {
     fn set_component(self, i: usize, x: i64) -> Result<Self, Denial>
         ensures { Answers (replace_rules width i x) (λ c. row c ≡ slice_set (row self) i x) result };
 
-    // The cell of a row whose components are told one by one. It is for `told` to refuse what 64 bits do not hold.
-    fn build<F: Fn(usize) -> Result<i64, Denial>>(told: F) -> Result<Self, Denial>
-        requires { (i : ℕ) → i < width → F.pre told i }
-        ensures { (r : Row) → length r ≡ width → Tells F.post told width r
-            → Answers (carry_rules r) (λ c. row c ≡ r) result }
-    {
-        let mut cell = Self::zero();
-        // By number, since a cell takes its components by number.
-        for i in 0..Self::width() {
-            cell = cell.set_component(i, told(i)?)?;
-        }
-        Ok(cell)
-    }
-
+    // Three loops that differ in the operation. One method that takes a closure would be a method with a bound of its own, and what is
+    // left to its trait by a kind that holds a function pointer could then not be stated. By number, since a cell takes its components so.
     fn sum(self, other: Self) -> Result<Self, Denial>
         ensures { Answers (carry_rules (row self ⊕ row other)) (λ c. row c ≡ row self ⊕ row other) result }
     {
-        Self::build(
-            |i: usize| -> Result<i64, Denial>
-                requires { i < width }
-                ensures { Told (part (row self) i +ℤ part (row other) i) i result }
-            {
-                let total = self.component(i)?.checked_add(other.component(i)?);
-                total.ok_or(beyond(i))
-            },
-        )
+        let mut answer = self;
+        for i in 0..Self::width() {
+            let total = self.component(i)? + other.component(i)?;
+            answer = answer.set_component(i, total)?;
+        }
+        Ok(answer)
     }
 
     fn difference(self, other: Self) -> Result<Self, Denial>
         ensures { Answers (carry_rules (row self ⊖ row other)) (λ c. row c ≡ row self ⊖ row other) result }
     {
-        Self::build(
-            |i: usize| -> Result<i64, Denial>
-                requires { i < width }
-                ensures { Told (part (row self) i -ℤ part (row other) i) i result }
-            {
-                let rest = self.component(i)?.checked_sub(other.component(i)?);
-                rest.ok_or(beyond(i))
-            },
-        )
+        let mut answer = self;
+        for i in 0..Self::width() {
+            let rest = self.component(i)? - other.component(i)?;
+            answer = answer.set_component(i, rest)?;
+        }
+        Ok(answer)
     }
 
     fn multiple(self, by: i64) -> Result<Self, Denial>
         ensures { Answers (carry_rules (by ⊙ row self)) (λ c. row c ≡ by ⊙ row self) result }
     {
-        Self::build(
-            |i: usize| -> Result<i64, Denial>
-                requires { i < width }
-                ensures { Told (by *ℤ part (row self) i) i result }
-            {
-                let times = by.checked_mul(self.component(i)?);
-                times.ok_or(beyond(i))
-            },
-        )
+        let mut answer = self;
+        for i in 0..Self::width() {
+            let Some(times) = by.checked_mul(self.component(i)?) else {
+                return Err(beyond(i));
+            };
+            answer = answer.set_component(i, times)?;
+        }
+        Ok(answer)
     }
 
     ghost numbered: { number < 256 };

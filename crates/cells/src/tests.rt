@@ -101,13 +101,3 @@ fn components_in_order(rt: HostRuntime) -> Result<(), Fail> {
     assert_eq!(rt; components.next(), None);
     Ok(())
 }
-
-#[test]
-fn built_from_what_is_told(rt: HostRuntime) {
-    assert_eq!(rt;
-        parts(Pair::build(|i| Ok(if i == 0 { 5 } else { -6 }))),
-        Some((5, -6))
-    );
-    let refused = Pair::build(|_| Ok(CARRY_LIMIT + 1));
-    assert_eq!(rt; refused.err().map(|denial| denial.place), Some(0));
-}

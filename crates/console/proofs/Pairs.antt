@@ -1,8 +1,8 @@
 -- Hex text as the specification has it and as the crate `hex` has it.
-use Rattle.std.proofs.Common.{◌≡◌, ℕ, suc, ◌≤◌, inl, inr, ◌⊎◌, ◌+◌, ◌*◌, ◌/◌, ◌%◌, ◌<◌, true, List, [], ◌∷◌, length, slice_index, Some, Ok, Err, sym, refl, ap, ◌∙◌, arith}
-use Rattle.std.specs.List.{AllPass}
+use Rattle.std.proofs.Common.{◌≡◌, ℕ, suc, ◌≤◌, inl, inr, ◌⊎◌, ◌+◌, ◌*◌, ◌/◌, ◌%◌, ◌<◌, true, false, List, [], ◌∷◌, length, slice_index, Some, Ok, Err, sym, refl, ap, ◌∙◌, arith}
+use Rattle.std.specs.List.{AllPass, list_all}
 use Rattle.std.specs.Str.Parse.{AllDigits}
-use Rattle.std.specs.Char.{digit_char, digit_value}
+use Rattle.std.specs.Char.{digit_char, digit_value, is_ascii_hexdigit}
 use Rattle.std.proofs.lemmas.Bool.{cases_lt}
 use Rattle.std.proofs.lemmas.Bool.Decides.{nat_tests}
 use Rattle.std.proofs.lemmas.List.Elements.{All-head, All-tail}
@@ -89,6 +89,17 @@ hex-refused ds OddLength m s (inl e) = cc
 hex-refused ds OddLength m s (inr e) = inr (s, not-hex ds OddLength e)
 hex-refused ds InvalidStringLength m s (inl e) = cc
 hex-refused ds InvalidStringLength m s (inr e) = inr (s, not-hex ds InvalidStringLength e)
+
+-- a word with another character than a digit
+digit-passes : (c : ℕ) → digit_value c < 16 → is_ascii_hexdigit c ≡ true
+digit-passes c h = grind (arith)
+
+pass-digits : (ds : List ℕ) → AllDigits 16 ds → list_all is_ascii_hexdigit ds ≡ true
+pass-digits [] h = refl
+pass-digits (c ∷ cs) h = rw (digit-passes c h.0, pass-digits cs h.1) refl
+
+pub no-digits : (ds : List ℕ) → list_all is_ascii_hexdigit ds ≡ false → Hex ds → ⊥
+no-digits ds wrong h = let right = pass-digits ds h.1 in cc
 
 -- what is encoded
 digit-glyph : (d : ℕ) → d < 16 → slice_index lower_digits d ≡ digit_char d

@@ -1,5 +1,6 @@
 // The text that the program prints for a table.
-ghost use Rattle.std.specs.Prelude.{IfOk};
+ghost use Rattle.std.specs.Prelude.{◌≡◌, map, replicate, IfOk, vec_len};
+ghost use Rattle.algebra.specs.Row.{zeros};
 ghost use Rattle.formats.specs.NoisyTable.{kind_in, read_rules};
 ghost use Rattle.listing.specs.Listing.{Listed, ListedAt, Listing, Tells, table_rules, width_of, most_nodes};
 
@@ -12,14 +13,26 @@ use std::alloc::{AllocError, Global};
 
 const MOST_NODES: usize = 1023;
 
+// So many cells of zeros. (`vec!` copies by `clone`, of which a kind doesn't say that it gives the same cell.)
+fn zero_cells<K: Kind>(heap: Global, n: usize) -> Result<Vec<K>, AllocError>
+    ensures len { IfOk result (λ v. vec_len v ≡ n) }
+    ensures rows { IfOk result (λ v. map K.Kind.row v.items ≡ replicate n (zeros K.width)) }
+{
+    let mut cells = Vec::with_capacity(heap, n)?;
+    for i in 0..n {
+        cells.push(K::zero())?;
+    }
+    Ok(cells)
+}
+
 // The listing of a table of the kind K.
 fn table_text<K: Kind>(heap: Global, table: &[u8]) -> Result<Vec<u8>, Halt>
     ensures { Tells (read_rules K.number K.width most_nodes table.now)
         (λ t. Listed K.number K.width table.now t.items) result }
 {
-    let mut noisy = vec![in heap; K::zero(); MOST_NODES]?;
-    let mut numerators = vec![in heap; K::zero(); MOST_NODES]?;
-    let mut work = vec![in heap; K::zero(); MOST_NODES]?;
+    let mut noisy = zero_cells::<K>(heap, MOST_NODES)?;
+    let mut numerators = zero_cells::<K>(heap, MOST_NODES)?;
+    let mut work = zero_cells::<K>(heap, MOST_NODES)?;
     let shape = read_table(table, noisy.as_mut_slice())?;
     let d = solve(
         shape,

@@ -3,3 +3,4 @@ pub mod Lending
 pub mod Lined
 pub mod Wider
 pub mod Ran
+pub mod Filled

@@ -10,5 +10,11 @@ pub fn zero_cells<K: Kind>(heap: Global, n: usize) -> Result<Vec<K>, AllocError>
     ensures len { IfOk result (λ v. vec_len v ≡ n) }
     ensures rows { IfOk result (λ v. map K.Kind.row v.items ≡ replicate n (zeros K.width)) }
 {
-    (0..n).map(|_| K::zero()).collect(heap)
+    // The room comes first, so that a length that cannot be had is refused at once: `collect` would fill what memory there is, and
+    // with `extend` the proof didn't close.
+    let mut cells = Vec::with_capacity(heap, n)?;
+    for i in 0..n {
+        cells.push(K::zero())?;
+    }
+    Ok(cells)
 }

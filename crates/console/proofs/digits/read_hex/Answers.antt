@@ -1,6 +1,10 @@
+use Rattle.std.proofs.Common.{inr, refl, sym, ◌∙◌}
 use Rattle.std.proofs.lemmas.Result.{err_from_is_err_and}
-use Rattle.console.proofs.Pairs.{decoded-hex, hex-refused}
+use Rattle.console.proofs.Pairs.{decoded-hex, hex-refused, no-digits}
 use Rattle.console.proofs.digits.read_hex.Goals as goal
+
+pub returns-then-not-is_digits : goal.returns-then-not-is_digits
+returns-then-not-is_digits c = inr (refl, no-digits c.args.word.now (sym c.is_digits.ensures ∙ c.if-not-is_digits.true))
 
 pub returns-in_err-decode : goal.returns-in_err-decode
 returns-in_err-decode c =

@@ -1,14 +1,18 @@
-use Rattle.std.proofs.Common.{ℤ, ◌-ℤ◌, sym, subst}
+use Rattle.std.proofs.Common.{◌-ℤ◌, rules}
 use Rattle.algebra.proofs.Rows.{part-sub, zip_length}
 use Rattle.algebra.specs.Row.{◌⊖◌}
-use Rattle.cells.specs.Calls.{Told}
+use Rattle.cells.proofs.Build.{sofar-none, builds}
 use Rattle.cells.proofs.kind.Kind.difference.Goals as goal
 
-pub returns : goal.returns
-returns g c =
+pub loop-i-init : goal.loop-i-init
+loop-i-init g c =
     let law = g.met.Self.Kind in
-    let r = g.Self.Kind.row c.args.self in
-    let s = g.Self.Kind.row c.args.other in
+    let row = g.Self.Kind.row in
+    let r = row c.args.self in
+    let s = row c.args.other in
     let lr = law.sized c.args.self in
     let ls = law.sized c.args.other in
-    c.build.ensures (r ⊖ s) (zip_length ◌-ℤ◌ _ r s lr ls) (λ i x h p. subst (λ (y : ℤ). Told y i x) (sym (part-sub _ r s lr ls i)) p)
+    (sofar-none (r ⊖ s) r, builds row _ (r ⊖ s) law.sized law.held (zip_length ◌-ℤ◌ _ r s lr ls), part-sub _ r s lr ls)
+
+pub returns-in_err-answer : goal.returns-in_err-answer
+returns-in_err-answer g c = search rules
