@@ -8,6 +8,9 @@ ghost use Rattle.console.specs.declared.mistake.Mistake.TheVariants.{NoHex, NoMe
 use crate::mistake::Mistake;
 use std::alloc::{AllocError, Global};
 
+// More digits than any table has.
+const LONG: usize = 65_536;
+
 // Whether a word is hex digits alone, in either case.
 fn is_digits(word: &str) -> bool
     ensures { result ≡ list_all is_ascii_hexdigit word.now }
@@ -15,11 +18,11 @@ fn is_digits(word: &str) -> bool
     word.as_bytes().iter().all(|b| b.is_ascii_hexdigit())
 }
 
-// The digits are looked at first, so that a word that is no hex asks for no memory.
+// Where there are many digits they are looked at first, so that a long word that is no hex asks for no memory.
 pub fn read_hex(heap: Global, word: &str) -> Result<Vec<u8>, Mistake>
     ensures { MatchResult result (λ v. Hex word.now × (v.items ≡ bytes_of word.now)) (λ m. (m ≡ NoMemory) ⊎ ((m ≡ NoHex) × (Hex word.now → ⊥))) }
 {
-    if !is_digits(word) {
+    if word.len() > LONG && !is_digits(word) {
         return Err(Mistake::NoHex);
     }
     Ok(hex::decode(heap, word)?)
